@@ -2,8 +2,11 @@
 import random
 from dataclasses import dataclass, field
 
-ARITHMETIC = ("+", "-", "*", "/", "%")
+DIVISIONS = ("/", "%")
+BITS = ("&", "|", "^", "<<", ">>")
+ARITHMETIC = ("+", "-", "*", *DIVISIONS, *BITS)
 COMPARISONS = ("==", "!=", "<", "<=", ">", ">=")
+NUMBERS = ("0x1f", "0xFf_00", "1_000", "63", "0x7fff_ffff_ffff_ffff", "0x8000_0000_0000_0000", "18446744073709551615", "-9223372036854775808")
 MOST_DEPTH = 3
 MOST_PENDING = 3
 """How many tasks a function may have that were not waited for."""
@@ -28,8 +31,12 @@ class Sources:
     callees: list[Called] = field(default_factory=list)
     pending: list[str] = field(default_factory=list)
     further_out: int = 0
-    """The tasks of the innermost block that were not waited for, and how many there are in the blocks around it."""
+    """The tasks of the innermost block that were not waited for, and how many tasks and groups there are in the blocks around it."""
+    groups: list[str] = field(default_factory=list)
+    outer_groups: list[str] = field(default_factory=list)
+    """The groups of the innermost block that were not waited for, and those of the blocks around it."""
     cells: list[str] = field(default_factory=list)
+    may_divide: bool = True
 
     def source(self) -> str:
         """A source with a main of two parameters, behind constants and cells, and functions below it. Each calls only later ones,
@@ -53,7 +60,9 @@ class Sources:
 
     def constant(self) -> str:
         """A constant: a number, or one of those above."""
-        value = self.draws.choice([*self.constants, str(self.draws.randint(-4, 9))])
+        value = self.draws.choice([*self.constants, self.number()])
+        if self.draws.random() < 0.3:
+            value = f"{value} {self.draws.choice(('+', '*', '<=', '!=', *BITS))} {self.number()}"
         self.constants.append(f"C{len(self.constants)}")
         return f"{self.draws.choice(('const', 'param'))} {self.constants[-1]} = {value}\n"
 
@@ -65,15 +74,17 @@ class Sources:
 
     def block(self, indent: int, depth: int, in_loop: bool) -> str:
         """The lines of a block, without its braces. No statement in it but the last one leaves."""
-        alive, around = len(self.names), self.pending
-        self.pending, self.further_out = [], self.further_out + len(around)
+        alive, around, groups, outer_groups = len(self.names), self.pending, self.groups, self.outer_groups
+        self.pending, self.further_out = [], self.further_out + len(around) + len(groups)
+        self.groups, self.outer_groups = [], outer_groups + groups
         lines = [self.statement(indent, depth, in_loop) for _ in range(self.draws.randint(1, 3))]
         if indent > 1 and self.draws.random() < 0.25:
-            leaving = [f"return {self.returned(1)}", *(["break", "continue"] if in_loop else [])]
+            leaving = [f"return {self.returned(1)}", *(f"return wait {it}" for it in self.groups), *(["break", "continue"] if in_loop else [])]
             lines.append("    " * indent + self.draws.choice(leaving) + "\n")
         elif indent > 1:
-            lines += [f"{'    ' * indent}wait {it}\n" for it in self.pending]
-        self.pending, self.further_out = around, self.further_out - len(around)
+            lines += [f"{'    ' * indent}wait {it}\n" for it in self.pending + self.groups]
+        self.pending, self.further_out = around, self.further_out - len(around) - len(groups)
+        self.groups, self.outer_groups = groups, outer_groups
         del self.names[alive:]
         return "".join(lines)
 
@@ -83,8 +94,12 @@ class Sources:
         kind = self.draws.choice(("let", "set", "update", "if", "while") if depth else ("let", "set", "update"))
         if self.callees and self.draws.random() < 0.1:
             return f"{room}{self.call(('call', 'isolate', 'post'))}\n"
-        if self.callees and self.further_out + len(self.pending) < MOST_PENDING and self.draws.random() < 0.2:
-            return self.task(room)
+        if self.callees and self.further_out + len(self.pending) + len(self.groups) < MOST_PENDING and self.draws.random() < 0.25:
+            return self.draws.choice((self.task, self.task, self.group))(room)
+        if self.callees and (self.groups or self.outer_groups) and self.draws.random() < 0.3:
+            return f"{room}spawn {self.draws.choice(self.groups + self.outer_groups)}: {self.application()}\n"
+        if self.groups and self.draws.random() < 0.3:
+            return self.gather(room)
         if self.pending and self.draws.random() < 0.4:
             return self.wait(room)
         if self.cells and self.draws.random() < 0.3:
@@ -124,6 +139,20 @@ class Sources:
         self.count += 1
         self.pending.append(f"v{self.count}")
         return f"{room}let {self.pending[-1]} = spawn {made}\n"
+
+    def group(self, room: str) -> str:
+        """A group, with a task in it."""
+        self.count += 1
+        self.groups.append(f"g{self.count}")
+        return f"{room}group {self.groups[-1]}\n{room}spawn {self.groups[-1]}: {self.application()}\n"
+
+    def gather(self, room: str) -> str:
+        """A wait for a group."""
+        group = self.groups.pop(self.draws.randrange(len(self.groups)))
+        kind = self.draws.choice(("wait", "let", "set"))
+        if kind == "set" and self.names:
+            return f"{room}{self.draws.choice(self.names)} = wait {group}\n"
+        return self.declared(room, f"wait {group}") if kind == "let" else f"{room}wait {group}\n"
 
     def wait(self, room: str) -> str:
         """A wait for a task, or for all of them, which are variables from there on."""
@@ -185,7 +214,9 @@ class Sources:
         low, high = (self.draws.choice((str(self.draws.randint(-2, 3)), f"{self.draws.choice(self.names)} % 3")) for _ in range(2))
         used = f"{room}    {self.draws.choice(self.names)} += {index}\n"
         body = self.block(indent + 1, depth - 1, in_loop=True)
-        return f"{room}for {index} in {low}..{high} + 2 {{\n{used}{body}{room}}}\n"
+        step = self.draws.choice(("", "", f" step {self.draws.choice((1, 2, 3, -1, -2))}"))
+        ends = f"{high} + 4..{low}" if "-" in step else f"{low}..{high} + 2"
+        return f"{room}for {index} in {ends}{step} {{\n{used}{body}{room}}}\n"
 
     def any_value(self) -> str:
         """A value that a variable may be given: a number, or a condition."""
@@ -195,10 +226,24 @@ class Sources:
         """A number."""
         if not depth or self.draws.random() < 0.3:
             known = [*self.names, *self.constants]
-            return self.draws.choice((*([self.draws.choice(known)] if known else []), str(self.draws.randint(-3, 12))))
-        operator = self.draws.choice((*ARITHMETIC, "<"))
-        both = f"{self.value(depth - 1)} {operator} {self.value(depth - 1)}"
-        return self.draws.choice((f"({both})", f"({both})", f"-({both})"))
+            return self.draws.choice((*([self.draws.choice(known)] if known else []), self.number()))
+        if self.draws.random() < 0.12:
+            return self.truth(depth - 1)
+        operators = [it for it in (*ARITHMETIC, *COMPARISONS) if self.may_divide or it not in DIVISIONS]
+        both = f"{self.value(depth - 1)} {self.draws.choice(operators)} {self.value(depth - 1)}"
+        return self.draws.choice((f"({both})", f"({both})", f"-({both})", f"~({both})"))
+
+    def number(self) -> str:
+        """A number that is written, mostly a small one."""
+        small = str(self.draws.randint(-3, 12))
+        return self.draws.choice((small, small, small, self.draws.choice(NUMBERS)))
+
+    def truth(self, depth: int) -> str:
+        """A condition as a number. What it may skip does not divide."""
+        before, self.may_divide = self.may_divide, False
+        found = f"({self.condition(depth)})"
+        self.may_divide = before
+        return found
 
     def condition(self, depth: int) -> str:
         """A condition."""

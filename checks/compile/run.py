@@ -1,7 +1,7 @@
 #!/usr/bin/env python3
 """Compares arena-compile with the compiler in Python, and both with the interpreter of checks/python, which was written from
-docs/LANGUAGE.md alone, on drawn sources, and on some with loops that count, constants, calls, tasks and cells, at their edges: what
-both make is rehearsed on drawn schedules, and what `arena-compile --serial` prints must be the line of the interpreter's value. Of the
+docs/LANGUAGE.md alone, on drawn sources, and on some with numbers, bits, loops that count, constants, calls, tasks, groups and cells, at
+their edges: what both make is rehearsed on drawn schedules, and what `arena-compile --serial` prints must be the line of the interpreter's value. Of the
 examples in examples/jobs those that it takes must give what they say. Sources with faults must be refused at the first one. The
 last line says how many.
 
@@ -21,6 +21,7 @@ from dataclasses import dataclass
 TOP = pathlib.Path(__file__).resolve().parents[2]
 sys.path[:0] = [str(TOP / "checks" / "python"), str(TOP / "checks" / "build"), str(TOP / "python")]
 
+from bit_sources import BITS  # noqa: E402
 from calling_sources import CALLING  # noqa: E402
 from core_sources import Sources  # noqa: E402
 from counting_sources import COUNTING  # noqa: E402
@@ -29,6 +30,7 @@ from arena.language import SourceFault, compile_source  # noqa: E402
 from arena.language.examples import examples_of, unit_of  # noqa: E402
 from arena.replies import Complete, Fault, FaultCode  # noqa: E402
 from arena.trace.rehearsal import rehearse  # noqa: E402
+from group_sources import GROUPS  # noqa: E402
 from reference import TooLong, interpreted  # noqa: E402
 from refused_places import REFUSED  # noqa: E402
 from sharing_sources import SHARING  # noqa: E402
@@ -60,8 +62,11 @@ REPLIES = (
 )
 """Sources, the words for arena-compile, its status, its output, and standard error up to a colon and a space."""
 
-TAKEN = {"fib.job", "posted.job", "serial.job"}
+TAKEN = {"fib.job", "hash.job", "posted.job", "serial.job"}
 """The examples that arena-compile takes."""
+
+CANCELS = re.compile(r"\bcancel \w+;?")
+"""Statements that the interpreter leaves out: what the sources cancel decides none of their values."""
 
 FEWEST = {"complete": 0.4, "fault": 0.01}
 """Which share of the programs is at least so."""
@@ -114,7 +119,7 @@ def difference(program: str, source: str, arguments: tuple[int, int], draws: ran
     """What is wrong with a source, if something is. What the cells sum up to in the end is compared with these, or else with what
     they do by the compiler in Python."""
     try:
-        wanted = interpreted(source, arguments)
+        wanted = interpreted(CANCELS.sub("", source), arguments)
     except TooLong:
         seen["too long"] += 1
         return ""
@@ -186,7 +191,7 @@ def main(seed: int = 1, programs: int = 400) -> list[str]:
         source, arguments = sources.source(), (draws.randint(-5, 9), draws.randint(-5, 9))
         said = difference(program, source, arguments, draws, seen)
         found += [said] if said else []
-    found += [said for source, arguments in (*COUNTING, *CALLING, *WAITING) if (said := difference(program, source, arguments, draws, Counter()))]
+    found += [said for source, arguments in (*BITS, *COUNTING, *CALLING, *WAITING, *GROUPS) if (said := difference(program, source, arguments, draws, Counter()))]
     found += [said for source, arguments, cells in SHARING if (said := difference(program, source, arguments, draws, Counter(), cells))]
     found += example_differences(program, draws)
     found += [said for source, place in REFUSED if (said := refused_difference(program, source, place))]
@@ -197,8 +202,8 @@ def main(seed: int = 1, programs: int = 400) -> list[str]:
     if rare:
         print(f"too few programs are {', '.join(rare)}")
     shown = ", ".join(f"{count} {kind}" for kind, count in sorted(seen.items()))
-    print(f"{programs} sources by two compilers ({shown}), {len(COUNTING)} that count, {len(CALLING)} that call, {len(WAITING)} that wait, "
-          f"{len(SHARING)} that share, {len(TAKEN)} of the examples, {len(REFUSED)} refused: {len(found)} differences")
+    print(f"{programs} sources by two compilers ({shown}), {len(BITS)} with bits, {len(COUNTING)} that count, {len(CALLING)} that call, "
+          f"{len(WAITING)} that wait, {len(GROUPS)} with groups, {len(SHARING)} that share, {len(TAKEN)} of the examples, {len(REFUSED)} refused: {len(found)} differences")
     return found or rare
 
 

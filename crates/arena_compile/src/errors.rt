@@ -60,7 +60,8 @@ fn words_of(wrong: Wrong) -> &'static str {
         Wrong::TooManyNames => "a function has at most 240 variables",
         Wrong::NotAssigned =>
             "only variables and cells are assigned to, and not the index of a `for`",
-        Wrong::NoConstant => "the value of a constant is a number, or a constant above it",
+        Wrong::NoConstant => "the value of a constant is made of numbers and of constants above it",
+        Wrong::NoStep => "the step of a `for` is a constant that is not 0",
         Wrong::LateItem => "constants and cells stand above all functions",
         Wrong::TooManyItems => "a source has at most 100 constants and cells",
         Wrong::WrongKey => "the key of a cell is a number from 0 to 7",
@@ -68,7 +69,8 @@ fn words_of(wrong: Wrong) -> &'static str {
         Wrong::TooManyCells => "no key is left for this cell: there are 8",
         Wrong::CellValue =>
             "a cell is read alone: write `let x = c.local` before this, or c.sum or c.count",
-        Wrong::Comparison => "a comparison is no operand of this operator here",
+        Wrong::SkippedDivision =>
+            "`&&` or `||` may skip a division here: write `let x = ..` with it before this",
         Wrong::TooLong => "what begins here is too long, or nested too deep",
         Wrong::NeverReached => "this is never reached: leave it out",
         Wrong::NoLoop => "there is no loop around this",
@@ -77,11 +79,15 @@ fn words_of(wrong: Wrong) -> &'static str {
         Wrong::UnknownFunction => "no function of this name is there",
         Wrong::ArgumentCount => "a function is called with as many arguments as it has parameters",
         Wrong::NotWaited =>
-            "this is a task that was not waited for: write `wait` or `sync` before its value is read",
+            "this is a task or a group that was not waited for: write `wait` before its value is read",
         Wrong::WaitSkipped =>
             "a task is waited for in its own block, and not where that may be skipped or done again",
-        Wrong::NoTask => "only a task that `let a = spawn f(x)` declares is waited for",
-        Wrong::TaskLeft => "a task of this block is not waited for before the block ends",
+        Wrong::NoTask => "only a task or a group is waited for, and a group once",
+        Wrong::GroupValue =>
+            "what a group adds up to is read alone: write `let x = wait g` before this",
+        Wrong::NotGroup => "no group of this name, nor a task to cancel, is there to be waited for",
+        Wrong::TaskLeft =>
+            "a task or a group of this block is not waited for before the block ends",
         Wrong::NoGroup =>
             "no group is left: wait for a task before, since 3 at most may be there that were not waited for",
         Wrong::TooManyFunctions => "a job has at most 16 functions",

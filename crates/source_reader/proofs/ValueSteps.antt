@@ -27,12 +27,12 @@ value_some (suc n) names w ts h =
 
 pub ruleset value_steps = (value_none, value_some)
 
-pub level_single : (n : ℕ) (names : Scope) (l : ℕ) (ts : List Token) → 0 < n → 5 ≤ l → value_at n names (Level l) ts ≡ value_at (n - 1) names Single ts
-level_single n names l ts h le = value_some n names (Level l) ts h ∙ rw (le-ltb l 5 le) refl
+pub level_single : (n : ℕ) (names : Scope) (l : ℕ) (ts : List Token) → 0 < n → 9 ≤ l → value_at n names (Level l) ts ≡ value_at (n - 1) names Single ts
+level_single n names l ts h le = value_some n names (Level l) ts h ∙ rw (le-ltb l 9 le) refl
 
-pub level_more : (n : ℕ) (names : Scope) (l : ℕ) (ts : List Token) (a : ValueTree) (rest : List Token) → 0 < n → l < 5 → value_at (n - 1) names (Level (l + 1)) ts ≡ Ok (a, rest)
+pub level_more : (n : ℕ) (names : Scope) (l : ℕ) (ts : List Token) (a : ValueTree) (rest : List Token) → 0 < n → l < 9 → value_at (n - 1) names (Level (l + 1)) ts ≡ Ok (a, rest)
     → value_at n names (Level l) ts ≡ value_at (n - 1) names (More l a) rest
-level_more n names l ts a rest h lt e = value_some n names (Level l) ts h ∙ rw (lt-ltb l 5 lt, e) refl
+level_more n names l ts a rest h lt e = value_some n names (Level l) ts h ∙ rw (lt-ltb l 9 lt, e) refl
 
 pub more_on : (n : ℕ) (names : Scope) (l : ℕ) (left : ValueTree) (ts : List Token) (s : Sign) (right : ValueTree) (rest : List Token) (both : ValueTree) → 0 < n → sign_at l ts ≡ Some s
     → value_at (n - 1) names (Level (l + 1)) (drop 1 ts) ≡ Ok (right, rest) → joined s left right ts ≡ Ok both → value_at n names (More l left) ts ≡ value_at (n - 1) names (More l both) rest

@@ -1,5 +1,6 @@
 -- What gives a value that no expression computes.
 use Rattle.std.specs.Prelude.{ℕ, List, [], ◌∷◌, drop, Option, Some, None, Result, Ok, Err}
+use Rattle.std.specs.Option.{option_map}
 use Rattle.source_language.specs.declared.syntax.Question.TheVariants as question
 use Rattle.source_tokens.specs.declared.tokens.Kind.{Kind}
 use Rattle.source_tokens.specs.declared.tokens.Kind.TheVariants as kind
@@ -14,7 +15,9 @@ use Rattle.source_reader.specs.declared.names.Meaning.TheVariants as meaning
 use Rattle.source_reader.specs.Cells.{question_of}
 use Rattle.source_reader.specs.Faults.{◌>>=◌}
 use Rattle.source_reader.specs.Names.{Scope, meaning_of}
-use Rattle.source_reader.specs.Trees.{StmtTree, ReadTree}
+use Rattle.source_reader.specs.Groups.{own_group_at}
+use Rattle.source_reader.specs.Tasks.{group_number}
+use Rattle.source_reader.specs.Trees.{StmtTree, ReadTree, WaitTree}
 use Rattle.source_reader.specs.Values.{after_open, after_close}
 
 abbrev pub part_of : (key : ℕ) → Kind → Option Giver
@@ -34,6 +37,7 @@ abbrev pub giver_of : Kind → Scope → (rest : List Token) → Option Giver
 giver_of kind.Call names rest = Some giver.Call
 giver_of kind.Isolate names rest = Some giver.Isolate
 giver_of kind.Cancelled names rest = Some giver.Cancelled
+giver_of kind.Wait names rest = option_map giver.Wait (own_group_at names rest)
 giver_of (kind.Name x) names rest = named_giver (meaning_of x names) rest
 giver_of k names rest = None
 
@@ -54,4 +58,5 @@ abbrev pub given_by : Giver → Scope → ℕ → List Token → Result (StmtTre
 given_by giver.Call names x ts = run_at names (run.Call (Some x)) (drop 1 ts)
 given_by giver.Isolate names x ts = run_at names (run.Isolate x) (drop 1 ts)
 given_by giver.Cancelled names x ts = cancelled_at x (drop 1 ts)
+given_by (giver.Wait g) names x ts = Ok (WaitTree (Some x) None (group_number g), drop 1 (drop 1 ts))
 given_by (giver.Cell q) names x ts = Ok (ReadTree x q, drop 1 (drop 1 ts))

@@ -9,24 +9,13 @@ use Rattle.source_reader.specs.declared.names.Meaning.{Meaning}
 use Rattle.source_reader.specs.declared.names.Meaning.TheVariants as meaning
 use Rattle.source_reader.specs.declared.items.TheConstants.{FUNCTIONS}
 use Rattle.source_reader.specs.Faults.{◌>>=◌, fault_at}
-use Rattle.source_reader.specs.Trees.{FunctionTree, ExprTree, ValueTree, Constant, Variable, SlotTree, WidthTree, TwoTree, NumberTree, TruthTree}
+use Rattle.source_reader.specs.Trees.{FunctionTree}
+use Rattle.source_reader.specs.Constants.{constant_in}
 use Rattle.source_reader.specs.Keys.{cell_at}
 use Rattle.source_reader.specs.Names.{Scope, WithName}
 use Rattle.source_reader.specs.Values.{whole_value}
 use Rattle.source_reader.specs.Lines.{after_set, after_line_ends, item_ended, free_name}
 use Rattle.source_reader.specs.Functions.{functions_from}
-
-abbrev pub constant_of : ExprTree → List Token → Result ℤ Fault
-constant_of (Constant n) ts = Ok n
-constant_of (Variable x) ts = Err (fault_at ts wrong.NoConstant)
-constant_of SlotTree ts = Err (fault_at ts wrong.NoConstant)
-constant_of WidthTree ts = Err (fault_at ts wrong.NoConstant)
-constant_of (TwoTree o a b) ts = Err (fault_at ts wrong.NoConstant)
-
--- a value that is written as a number
-abbrev pub constant_in : ValueTree → List Token → Result ℤ Fault
-constant_in (NumberTree e) ts = constant_of e ts
-constant_in (TruthTree t) ts = Err (fault_at ts wrong.NoConstant)
 
 -- behind `const` or `param`: the name, its value, and the tokens after it
 abbrev pub constant_at : Scope → List Token → Result (ℕ × ℤ × List Token) Fault

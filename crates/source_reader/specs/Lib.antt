@@ -3,11 +3,15 @@ pub mod Trees
 pub mod Names
 pub mod Tasks
 pub mod Waits
+pub mod Folding
+pub mod Truths
 pub mod Joining
 pub mod Values
+pub mod Constants
 pub mod Lines
 pub mod Headers
 pub mod Calls
+pub mod Groups
 pub mod Cells
 pub mod Givers
 pub mod Simple

@@ -136,6 +136,8 @@ name_in k = None
 abbrev pub let_name_of : Kind → List Token → Option ℕ
 let_name_of kind.Let [] = None
 let_name_of kind.Let (t ∷ ts) = name_in t.kind
+let_name_of kind.Group [] = None
+let_name_of kind.Group (t ∷ ts) = name_in t.kind
 let_name_of k ts = None
 
 -- the name that the statement at the front declares

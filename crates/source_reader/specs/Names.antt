@@ -33,9 +33,13 @@ is_same_group task_group.Second task_group.Second = true
 is_same_group task_group.Third task_group.Third = true
 is_same_group g h = false
 
+-- what a name means behind a wait for its task; a group is waited for once
+abbrev pub behind_wait : Task → Meaning
+behind_wait t = if t.is_group then meaning.Closed t.variable else meaning.Awaited t.variable
+
 -- what a name means behind a wait for the task of that group
 abbrev pub awaited : TaskGroup → Meaning → Meaning
-awaited g (meaning.Task t) = if is_same_group t.group g then meaning.Awaited t.variable else meaning.Task t
+awaited g (meaning.Task t) = if is_same_group t.group g then behind_wait t else meaning.Task t
 awaited g m = m
 
 -- what a name of a block means in a block inside it
@@ -63,14 +67,19 @@ number_after x = if nat_lt x 255 then x + 1 else 255
 abbrev pub number_behind : ℕ → List Token → Result ℕ Fault
 number_behind v ts = if nat_lt v 240 then Ok (v + 1) else Err (fault_at ts wrong.TooManyNames)
 
+-- A group has no variable of its own.
+abbrev pub number_past : Task → List Token → Result ℕ Fault
+number_past t ts = if t.is_group then Ok t.variable else number_behind t.variable ts
+
 -- The end of a loop that counts is the variable behind its index. Before constants and cells there are no variables.
 abbrev pub number_next : Meaning → List Token → Result ℕ Fault
 number_next (meaning.Variable v) ts = number_behind v ts
 number_next (meaning.Counter v) ts = number_behind (number_after v) ts
 number_next (meaning.Constant z) ts = Ok 0
-number_next (meaning.Task t) ts = number_behind t.variable ts
+number_next (meaning.Task t) ts = number_past t ts
 number_next (meaning.Awaited v) ts = number_behind v ts
-number_next (meaning.OuterTask t) ts = number_behind t.variable ts
+number_next (meaning.Closed v) ts = Ok v
+number_next (meaning.OuterTask t) ts = number_past t ts
 number_next (meaning.Cell k) ts = Ok 0
 
 -- the number of one more variable

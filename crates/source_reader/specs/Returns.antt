@@ -5,10 +5,11 @@ use Rattle.source_reader.specs.declared.faults.Fault.{Fault}
 use Rattle.source_reader.specs.declared.tasks.Reach.TheVariants as reach
 use Rattle.source_reader.specs.Faults.{◌>>=◌}
 use Rattle.source_reader.specs.Trees.{ValueTree, StmtTree, Constant, Variable, ThenTree, ReturnTree}
-use Rattle.source_reader.specs.Names.{Scope, new_number}
+use Rattle.source_reader.specs.Names.{Scope, Waited, new_number}
 use Rattle.source_reader.specs.Tasks.{pending, leaving}
 use Rattle.source_reader.specs.Values.{unexpected, whole_value}
 use Rattle.source_reader.specs.declared.givers.Giver.{Giver}
+use Rattle.source_reader.specs.declared.givers.Giver.TheVariants as giver
 use Rattle.source_reader.specs.Givers.{giver_at, given_by}
 use Rattle.source_reader.specs.Lines.{assigned, returned, is_line_end, is_end}
 use Rattle.source_reader.specs.Simple.{ReadStmt}
@@ -32,12 +33,17 @@ value_returned names ts = do
   s ← returned_from names v.0 ts
   Ok (s, v.1)
 
+-- what is seen behind it
+abbrev pub behind : Giver → Scope → Scope
+behind (giver.Wait g) names = Waited g names
+behind g names = names
+
 -- The value is that of one more variable.
 abbrev pub returned_by : Giver → Scope → List Token → ReadStmt
 returned_by g names ts = do
   n ← new_number names ts
   c ← given_by g names n ts
-  Ok (ThenTree c.0 (variable_returned names n), c.1)
+  Ok (ThenTree c.0 (variable_returned (behind g names) n), c.1)
 
 abbrev pub returned_if : Option Giver → Scope → List Token → ReadStmt
 returned_if (Some g) names ts = returned_by g names ts

@@ -1,24 +1,27 @@
 -- Statements without blocks.
-use Rattle.std.specs.Prelude.{ℕ, List, [], ◌∷◌, drop, Option, Some, None, is_none, Result, Ok, Err, if◌then◌else◌}
+use Rattle.std.specs.Prelude.{ℕ, ℤ, List, [], ◌∷◌, drop, Option, Some, None, is_none, Result, Ok, Err, if◌then◌else◌}
 use Rattle.source_tokens.specs.declared.tokens.Kind.{Kind}
 use Rattle.source_tokens.specs.declared.tokens.Kind.TheVariants as kind
 use Rattle.source_tokens.specs.declared.tokens.Token.{Token}
 use Rattle.source_reader.specs.declared.faults.Fault.{Fault}
 use Rattle.source_reader.specs.declared.faults.Wrong.TheVariants as wrong
 use Rattle.source_reader.specs.Faults.{◌>>=◌, fault_at}
-use Rattle.source_reader.specs.Trees.{value_tree_of, TestTree, ValueTree, StmtTree, Variable, NumberTree, SkipTree}
+use Rattle.source_reader.specs.Trees.{value_tree_of, TestTree, ValueTree, StmtTree, Variable, NumberTree, SkipTree, WaitTree}
 use Rattle.source_reader.specs.declared.names.Meaning.{Meaning}
 use Rattle.source_reader.specs.declared.names.Meaning.TheVariants as meaning
 use Rattle.source_reader.specs.declared.simple.Count.{Count}
 use Rattle.source_reader.specs.declared.tasks.Reach.TheVariants as reach
 use Rattle.source_reader.specs.Names.{Scope, meaning_of, new_number, number_behind}
-use Rattle.source_reader.specs.Tasks.{pending}
+use Rattle.source_reader.specs.declared.names.TaskGroup.{TaskGroup}
+use Rattle.source_reader.specs.Tasks.{group_number, pending_task}
 use Rattle.source_reader.specs.Waits.{awaited_at}
 use Rattle.source_reader.specs.Joining.{test_in, operation, a_number}
 use Rattle.source_reader.specs.Values.{unexpected, whole_value}
+use Rattle.source_reader.specs.Constants.{step_at}
 use Rattle.source_reader.specs.declared.calls.Run.TheVariants as run
 use Rattle.source_reader.specs.declared.givers.Giver.{Giver}
 use Rattle.source_reader.specs.Calls.{run_at, is_spawn, spawn_at}
+use Rattle.source_reader.specs.Groups.{own_group_at}
 use Rattle.source_reader.specs.Cells.{store_at}
 use Rattle.source_reader.specs.Givers.{giver_at, given_by}
 use Rattle.source_reader.specs.Lines.{assigned, after_set, after_in, after_range, free_name}
@@ -86,6 +89,7 @@ updated names x (t ∷ ts) = updated_of t.kind names x ts (t ∷ ts)
 abbrev pub assigned_to : Scope → Meaning → List Token → List Token → ReadStmt
 assigned_to names (meaning.Variable v) ts rest = updated names v rest
 assigned_to names (meaning.Awaited v) ts rest = updated names v rest
+assigned_to names (meaning.Closed v) ts rest = Err (fault_at ts wrong.NotAssigned)
 assigned_to names (meaning.Task t) ts rest = Err (fault_at ts wrong.NotWaited)
 assigned_to names (meaning.OuterTask t) ts rest = Err (fault_at ts wrong.NotWaited)
 assigned_to names (meaning.Counter v) ts rest = Err (fault_at ts wrong.NotAssigned)
@@ -96,13 +100,17 @@ abbrev pub assigned_at : Scope → Option Meaning → List Token → List Token 
 assigned_at names None ts rest = Err (fault_at ts wrong.UnknownName)
 assigned_at names (Some m) ts rest = assigned_to names m ts rest
 
--- Behind `wait`: it is done already.
+abbrev pub wait_from : Option TaskGroup → Scope → List Token → ReadStmt
+wait_from (Some g) names ts = Ok (WaitTree None None (group_number g), drop 1 ts)
+wait_from None names ts = awaited_at names ts >>= λ v. Ok (SkipTree, drop 1 ts)
+
+-- Behind `wait`: for a task it is done already. What a group adds up to is dropped.
 abbrev pub wait_at : Scope → List Token → ReadStmt
-wait_at names ts = awaited_at names ts >>= λ v. Ok (SkipTree, drop 1 ts)
+wait_at names ts = wait_from (own_group_at names ts) names ts
 
 -- `sync`, which is the first of the tokens, behind its waits: the blocks around have no task that was not waited for.
 abbrev pub sync_at : Scope → (ts rest : List Token) → ReadStmt
-sync_at names ts rest = if is_none (pending reach.Function names) then Ok (SkipTree, rest) else Err (fault_at ts wrong.WaitSkipped)
+sync_at names ts rest = if is_none (pending_task reach.Function names) then Ok (SkipTree, rest) else Err (fault_at ts wrong.WaitSkipped)
 
 -- A region alone: its value goes to one more variable, which nothing reads.
 abbrev pub region_at : Scope → List Token → ReadStmt
@@ -110,16 +118,17 @@ region_at names ts = do
   n ← new_number names ts
   run_at names (run.Isolate n) (drop 1 ts)
 
--- the head of a loop that counts: its index and that one's variable, the variable of the end, and both values
+-- the head of a loop that counts: its index and that one's variable, the variable of the end, both values, and the step
 pub record CountTree : Type 0 where
   pub name : ℕ
   pub index : ℕ
   pub end : ℕ
   pub low : ValueTree
   pub high : ValueTree
+  pub by : ℤ
 
 abbrev pub view_count : Count → CountTree
-view_count c = record { name = c.name; index = c.index; end = c.end; low = value_tree_of c.low; high = value_tree_of c.high }
+view_count c = record { name = c.name; index = c.index; end = c.end; low = value_tree_of c.low; high = value_tree_of c.high; by = c.by }
 
 -- Behind `for`: neither value sees the index.
 abbrev pub count_at : Scope → List Token → Result (CountTree × List Token) Fault
@@ -131,4 +140,5 @@ count_at names ts = do
   low ← whole_value names from
   to ← after_range low.1
   high ← whole_value names to
-  Ok (record { name = x; index = i; end = h; low = low.0; high = high.0 }, high.1)
+  by ← step_at names high.1
+  Ok (record { name = x; index = i; end = h; low = low.0; high = high.0; by = by.0 }, by.1)

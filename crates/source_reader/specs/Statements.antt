@@ -1,5 +1,6 @@
 -- Statements and blocks.
-use Rattle.std.specs.Prelude.{ℕ, zero, suc, pos, Bool, true, false, List, [], ◌∷◌, drop, Option, Some, None, Result, Ok, Err, if◌then◌else◌}
+use Rattle.std.specs.Prelude.{ℕ, zero, suc, ℤ, pos, int_lt, Bool, true, false, List, [], ◌∷◌, drop, Option, Some, None, Result, Ok, Err, if◌then◌else◌}
+use Rattle.std.specs.Ordering.{int_eq}
 use Rattle.source_language.specs.declared.syntax.Operator.TheVariants as op
 use Rattle.source_tokens.specs.declared.tokens.Kind.{Kind}
 use Rattle.source_tokens.specs.declared.tokens.Kind.TheVariants as kind
@@ -7,10 +8,11 @@ use Rattle.source_tokens.specs.declared.tokens.Token.{Token}
 use Rattle.source_reader.specs.declared.faults.Fault.{Fault}
 use Rattle.source_reader.specs.declared.faults.Wrong.TheVariants as wrong
 use Rattle.source_reader.specs.Faults.{◌>>=◌, fault_at}
-use Rattle.source_reader.specs.Trees.{ValueTree, StmtTree, Constant, Variable, TwoTree, HoldsTree, SkipTree, ThenTree, AssignTree, IfTree, LoopTree, BreakTree, ContinueTree}
+use Rattle.source_reader.specs.Trees.{ExprTree, TestTree, ValueTree, StmtTree, Constant, Variable, TwoTree, HoldsTree, NotTree, EitherTree, SkipTree, ThenTree, AssignTree, IfTree, LoopTree, BreakTree, ContinueTree}
 use Rattle.source_reader.specs.declared.names.Meaning.{Meaning}
 use Rattle.source_reader.specs.declared.names.Meaning.TheVariants as meaning
 use Rattle.source_reader.specs.declared.names.Task.{Task}
+use Rattle.source_reader.specs.declared.names.TaskGroup.{TaskGroup}
 use Rattle.source_reader.specs.declared.tasks.Reach.TheVariants as reach
 use Rattle.source_reader.specs.Names.{Scope, WithName, Waited, Inner, meaning_of, new_number}
 use Rattle.source_reader.specs.Tasks.{free_group, waited, leaving, block_end}
@@ -19,6 +21,7 @@ use Rattle.source_reader.specs.Values.{unexpected}
 use Rattle.source_reader.specs.Lines.{assigned, leaves, after_begin, after_line_ends, ended, after_end, let_name}
 use Rattle.source_reader.specs.declared.calls.Run.TheVariants as run
 use Rattle.source_reader.specs.Calls.{run_at, is_spawn}
+use Rattle.source_reader.specs.Groups.{gathered, group_at, into_at, cancel_at}
 use Rattle.source_reader.specs.Simple.{ReadStmt, condition_at, count_at, let_at, assigned_at, wait_at, sync_at, region_at}
 use Rattle.source_reader.specs.Returns.{return_at}
 
@@ -34,21 +37,40 @@ Reader = Scope → Part → List Token → ReadStmt
 
 -- what a new variable stands for, by what follows `let x =`
 abbrev pub let_meaning : Scope → ℕ → List Token → Result Meaning Fault
-let_meaning names n ts = if is_spawn ts then (free_group names ts >>= λ g. Ok (meaning.Task (record { variable = n; group = g }))) else Ok (meaning.Variable n)
+let_meaning names n ts = if is_spawn ts then (free_group names ts >>= λ g. Ok (meaning.Task (record { variable = n; group = g; is_group = false }))) else Ok (meaning.Variable n)
 
--- the names behind a statement, which begins with the first of the tokens
+abbrev pub is_group_of : Kind → Bool
+is_group_of kind.Group = true
+is_group_of k = false
+
+abbrev pub is_group : List Token → Bool
+is_group [] = false
+is_group (t ∷ ts) = is_group_of t.kind
+
+-- what the name means that the statement at the front declares
+abbrev pub declared_meaning : Scope → ℕ → List Token → Result Meaning Fault
+declared_meaning names n ts =
+    if is_group ts then (free_group names ts >>= λ g. Ok (meaning.Task (record { variable = n; group = g; is_group = true })))
+    else let_meaning names n (drop 1 (drop 1 (drop 1 ts)))
+
+-- the names behind a statement, which begins with the first of the tokens, and those it declares
 abbrev pub with_name : Option ℕ → Scope → List Token → Result Scope Fault
 with_name None names ts = Ok names
 with_name (Some x) names ts = do
   n ← new_number names ts
-  m ← let_meaning names n (drop 1 (drop 1 (drop 1 ts)))
+  m ← declared_meaning names n ts
   Ok (WithName x m names)
 
-abbrev pub line_and_rest : Reader → Scope → Bool → List Token → ReadStmt
-line_and_rest next names in_loop ts = do
+-- the names behind a wait for a group, if it is one
+abbrev pub behind_line : Option TaskGroup → Scope → Scope
+behind_line None names = names
+behind_line (Some g) names = Waited g names
+
+abbrev pub line_and_rest : Reader → (names behind : Scope) → Bool → List Token → ReadStmt
+line_and_rest next names behind in_loop ts = do
   first ← next names (Line in_loop) ts
   rest ← ended first.1
-  inner ← with_name (let_name ts) names ts
+  inner ← with_name (let_name ts) behind ts
   others ← next inner (Rest in_loop (leaves first.0)) rest
   Ok (ThenTree first.0 others.0, others.1)
 
@@ -59,7 +81,7 @@ wait_and_rest next names in_loop t ts = do
   Ok (ThenTree (waited t) others.0, others.1)
 
 abbrev pub first_line : Reader → Scope → Bool → Option Task → List Token → ReadStmt
-first_line next names in_loop None ts = line_and_rest next names in_loop ts
+first_line next names in_loop None ts = line_and_rest next names (behind_line (gathered names ts) names) in_loop ts
 first_line next names in_loop (Some t) ts = wait_and_rest next names in_loop t ts
 
 abbrev pub rest_of : Reader → Scope → (in_loop left : Bool) → Option (List Token) → List Token → ReadStmt
@@ -73,20 +95,44 @@ while_at next names ts = do
   b ← next (Inner true names) (Block true) c.1
   Ok (LoopTree c.0 b.0 SkipTree, b.1)
 
--- the turns of a loop whose index is set already
-abbrev pub turns : (index end : ℕ) → StmtTree → StmtTree
-turns i h body = LoopTree (HoldsTree (TwoTree op.Below (Variable i) (Variable h))) body (AssignTree i (TwoTree op.Plus (Variable i) (Constant (pos 1))))
+-- whether the end is not reached
+abbrev pub before_end : (index end : ℕ) → (by : ℤ) → ExprTree
+before_end i h by = if int_lt by (pos 0) then TwoTree op.Below (Variable h) (Variable i) else TwoTree op.Below (Variable i) (Variable h)
 
--- The index counts up to an end that is computed once.
-abbrev pub counting_loop : (index end : ℕ) → (low high : ValueTree) → StmtTree → StmtTree
-counting_loop i h low high body = ThenTree (assigned i low) (ThenTree (assigned h high) (turns i h body))
+-- how far the end is, which may wrap
+abbrev pub to_end : (index end : ℕ) → ExprTree
+to_end i h = TwoTree op.Minus (Variable h) (Variable i)
+
+abbrev pub is_behind : ExprTree → TestTree
+is_behind e = HoldsTree (TwoTree op.Below e (Constant (pos 0)))
+
+-- Whether the end, which is not reached, is further than a step. If the sign of the difference is not the step's, it has wrapped.
+abbrev pub is_further : (index end : ℕ) → (by : ℤ) → TestTree
+is_further i h by =
+    if int_lt by (pos 0) then EitherTree (NotTree (is_behind (to_end i h))) (HoldsTree (TwoTree op.Below (to_end i h) (Constant by)))
+    else EitherTree (is_behind (to_end i h)) (HoldsTree (TwoTree op.Below (Constant by) (to_end i h)))
+
+abbrev pub advanced : (index : ℕ) → (by : ℤ) → StmtTree
+advanced i by = AssignTree i (TwoTree op.Plus (Variable i) (Constant by))
+
+-- To the next number of the index, or to the end. One by one no number is skipped, and none wraps.
+abbrev pub next_number : (index end : ℕ) → (by : ℤ) → StmtTree
+next_number i h by = if int_eq by (pos 1) then advanced i by else IfTree (is_further i h by) (advanced i by) (AssignTree i (Variable h))
+
+-- the turns of a loop whose index is set already
+abbrev pub turns : (index end : ℕ) → (by : ℤ) → StmtTree → StmtTree
+turns i h by body = LoopTree (HoldsTree (before_end i h by)) body (next_number i h by)
+
+-- The index counts up to an end that is computed once, or down to it.
+abbrev pub counting_loop : (index end : ℕ) → (by : ℤ) → (low high : ValueTree) → StmtTree → StmtTree
+counting_loop i h by low high body = ThenTree (assigned i low) (ThenTree (assigned h high) (turns i h by body))
 
 -- behind `for`
 abbrev pub for_at : Reader → Scope → List Token → ReadStmt
 for_at next names ts = do
   c ← count_at names ts
   b ← next (Inner true (WithName c.0.name (meaning.Counter c.0.index) names)) (Block true) c.1
-  Ok (counting_loop c.0.index c.0.end c.0.low c.0.high b.0, b.1)
+  Ok (counting_loop c.0.index c.0.end c.0.by c.0.low c.0.high b.0, b.1)
 
 abbrev pub if_at : Reader → Scope → Bool → List Token → ReadStmt
 if_at next names in_loop ts = do
@@ -107,6 +153,9 @@ line_of next names in_loop kind.Call rest ts = run_at names (run.Call None) rest
 line_of next names in_loop kind.Isolate rest ts = region_at names ts
 line_of next names in_loop kind.Post rest ts = run_at names run.Post rest
 line_of next names in_loop kind.Wait rest ts = wait_at names rest
+line_of next names in_loop kind.Group rest ts = group_at names rest
+line_of next names in_loop kind.Spawn rest ts = into_at names rest
+line_of next names in_loop kind.Cancel rest ts = cancel_at names rest
 line_of next names in_loop kind.Sync rest ts = sync_at names ts rest
 line_of next names in_loop kind.Break rest ts = if_in_loop in_loop (leaving reach.Loop names (BreakTree 0)) rest ts
 line_of next names in_loop kind.Continue rest ts = if_in_loop in_loop (leaving reach.Loop names (ContinueTree 0)) rest ts

@@ -1,4 +1,4 @@
--- Tasks that have names: which of them were not waited for, and the waits of what leaves them.
+-- Tasks and groups that have names: which of them were not waited for, and the waits of what leaves them.
 use Rattle.std.specs.Prelude.{ℕ, Bool, true, false, ◌||◌, List, Option, Some, None, is_none, Result, Ok, Err, if◌then◌else◌}
 use Rattle.source_tokens.specs.declared.tokens.Token.{Token}
 use Rattle.source_reader.specs.declared.faults.Fault.{Fault}
@@ -44,6 +44,14 @@ task_in r g (Inner is_loop others) = if ends_at r is_loop then None else task_in
 -- the first of those, by their groups
 abbrev pub pending : Reach → Scope → Option Task
 pending r names = first_task (task_in r task_group.First names) (first_task (task_in r task_group.Second names) (task_in r task_group.Third names))
+
+abbrev pub if_task : Option Task → Option Task
+if_task (Some t) = if t.is_group then None else Some t
+if_task None = None
+
+-- the first of those that is no group
+abbrev pub pending_task : Reach → Scope → Option Task
+pending_task r names = first_task (if_task (task_in r task_group.First names)) (first_task (if_task (task_in r task_group.Second names)) (if_task (task_in r task_group.Third names)))
 
 -- a group that no task has which was not waited for
 abbrev pub free_group : Scope → List Token → Result TaskGroup Fault

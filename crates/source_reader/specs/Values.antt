@@ -1,5 +1,6 @@
--- Values: operators of five levels between numbers, variables and values in parentheses.
-use Rattle.std.specs.Prelude.{ℕ, zero, suc, ◌+◌, ◌==◌, nat_lt, List, [], ◌∷◌, drop, Option, Some, None, Result, Ok, Err, if◌then◌else◌}
+-- Values: operators of nine levels between numbers, variables and values in parentheses.
+use Rattle.std.specs.Prelude.{ℕ, zero, suc, ◌+◌, ◌==◌, ◌||◌, nat_lt, pos, negsuc, int_le, Bool, true, List, [], ◌∷◌, drop, Option, Some, None, Result, Ok, Err, if◌then◌else◌}
+use Rattle.std.specs.Ordering.{int_eq}
 use Rattle.source_tokens.specs.declared.tokens.Sign.{Sign}
 use Rattle.source_tokens.specs.declared.tokens.Sign.TheVariants as sign
 use Rattle.source_tokens.specs.declared.tokens.Kind.{Kind}
@@ -14,7 +15,7 @@ use Rattle.source_reader.specs.declared.names.Meaning.{Meaning}
 use Rattle.source_reader.specs.declared.names.Meaning.TheVariants as meaning
 use Rattle.source_reader.specs.Names.{Scope, meaning_of}
 use Rattle.source_reader.specs.Waits.{awaited_at}
-use Rattle.source_reader.specs.Joining.{level_of, test_in, minus, joined}
+use Rattle.source_reader.specs.Joining.{level_of, test_in, minus, complement, joined}
 
 abbrev pub unexpected : {A : Type 0} → List Token → Result A Fault
 unexpected ts = Err (fault_at ts wrong.Unexpected)
@@ -60,6 +61,7 @@ worth (meaning.Variable v) ts = Ok (Variable v)
 worth (meaning.Counter v) ts = Ok (Variable v)
 worth (meaning.Constant z) ts = Ok (Constant z)
 worth (meaning.Awaited v) ts = Ok (Variable v)
+worth (meaning.Closed v) ts = Err (fault_at ts wrong.GroupValue)
 worth (meaning.Task t) ts = Err (fault_at ts wrong.NotWaited)
 worth (meaning.OuterTask t) ts = Err (fault_at ts wrong.NotWaited)
 worth (meaning.Cell k) ts = Err (fault_at ts wrong.CellValue)
@@ -79,11 +81,24 @@ more next l left (Some s) ts = do
   both ← joined s left right.0 ts
   next (More l both) right.1
 
--- behind a minus sign
+-- The opposite of 2^63 is a number, but not those of the numbers above.
+abbrev pub has_opposite_of : Kind → Bool
+has_opposite_of (kind.Number n) = int_le (pos 0) n || int_eq n (negsuc 9223372036854775807)
+has_opposite_of k = true
+
+abbrev pub has_opposite : List Token → Bool
+has_opposite [] = true
+has_opposite (t ∷ ts) = has_opposite_of t.kind
+
+-- Behind a minus sign, which belongs to a number right behind it.
 abbrev pub negative : (Wanted → List Token → Read) → List Token → List Token → Read
-negative next ts rest = do
+negative next ts rest = if has_opposite rest then (next Single rest >>= λ v. minus v.0 ts >>= λ x. Ok (x, v.1)) else unexpected rest
+
+-- behind `~`
+abbrev pub complemented : (Wanted → List Token → Read) → List Token → List Token → Read
+complemented next ts rest = do
   v ← next Single rest
-  x ← minus v.0 ts
+  x ← complement v.0 ts
   Ok (x, v.1)
 
 abbrev pub bracketed : (Wanted → List Token → Read) → List Token → Read
@@ -102,6 +117,7 @@ abbrev pub single_of : (Wanted → List Token → Read) → Scope → Kind → L
 single_of next names (kind.Number n) ts rest = Ok (NumberTree (Constant n), rest)
 single_of next names (kind.Name x) ts rest = named (meaning_of x names) ts rest
 single_of next names (kind.Sign sign.Minus) ts rest = negative next ts rest
+single_of next names kind.Complement ts rest = complemented next ts rest
 single_of next names kind.Not ts rest = next Single rest >>= λ v. Ok (TruthTree (NotTree (test_in v.0)), v.1)
 single_of next names kind.Open ts rest = bracketed next rest
 single_of next names kind.Slot ts rest = without_arguments SlotTree rest
@@ -114,7 +130,7 @@ single next names [] = unexpected []
 single next names (t ∷ ts) = single_of next names t.kind (t ∷ ts) ts
 
 abbrev pub step : (Wanted → List Token → Read) → Scope → Wanted → List Token → Read
-step next names (Level l) ts = if nat_lt l 5 then (next (Level (l + 1)) ts >>= λ first. next (More l first.0) first.1) else next Single ts
+step next names (Level l) ts = if nat_lt l 9 then (next (Level (l + 1)) ts >>= λ first. next (More l first.0) first.1) else next Single ts
 step next names (More l left) ts = more next l left (sign_at l ts) ts
 step next names Single ts = single next names ts
 

@@ -1,5 +1,5 @@
 -- What lines wait for.
-use Rattle.std.specs.Prelude.{ℕ, Bool, true, false, List, [], ◌∷◌, Option, Some, None, Result, Ok, Err, if◌then◌else◌}
+use Rattle.std.specs.Prelude.{ℕ, Bool, true, false, not, List, [], ◌∷◌, Option, Some, None, Result, Ok, Err, if◌then◌else◌}
 use Rattle.source_tokens.specs.declared.tokens.Sign.TheVariants as sign
 use Rattle.source_tokens.specs.declared.tokens.Kind.{Kind}
 use Rattle.source_tokens.specs.declared.tokens.Kind.TheVariants as kind
@@ -14,16 +14,16 @@ use Rattle.source_reader.specs.declared.waits.Ahead.{Ahead}
 use Rattle.source_reader.specs.declared.waits.Ahead.TheVariants as ahead
 use Rattle.source_reader.specs.Faults.{fault_at}
 use Rattle.source_reader.specs.Names.{Scope, meaning_of}
-use Rattle.source_reader.specs.Tasks.{pending}
+use Rattle.source_reader.specs.Tasks.{if_task, pending_task}
 
--- the task of the name at the front, if it may be waited for here
+-- the task of the name at the front, if it may be waited for before the line
 abbrev pub named_task : Option Meaning → Option Task
-named_task (Some (meaning.Task t)) = Some t
+named_task (Some (meaning.Task t)) = if_task (Some t)
 named_task m = None
 
 abbrev pub is_unread : Option Meaning → Bool
-is_unread (Some (meaning.Task t)) = true
-is_unread (Some (meaning.OuterTask t)) = true
+is_unread (Some (meaning.Task t)) = not t.is_group
+is_unread (Some (meaning.OuterTask t)) = not t.is_group
 is_unread m = false
 
 abbrev pub task_of : Kind → Scope → Option Task
@@ -64,7 +64,7 @@ is_cell (Some (meaning.Cell k)) = true
 is_cell m = false
 
 abbrev pub next_wait_of : Kind → Scope → List Token → Option Task
-next_wait_of kind.Sync names ts = pending reach.Block names
+next_wait_of kind.Sync names ts = pending_task reach.Block names
 next_wait_of kind.While names ts = None
 next_wait_of (kind.Name x) names ts = if is_cell (meaning_of x names) then None else wait_in names ts
 next_wait_of k names ts = wait_in names ts
@@ -77,7 +77,7 @@ next_wait names (t ∷ ts) = next_wait_of t.kind names (t ∷ ts)
 -- The variable of a task, whose name is the first of the tokens. The wait was done before the statement, unless it may not be done here.
 abbrev pub awaited_variable : Meaning → List Token → Result ℕ Fault
 awaited_variable (meaning.Awaited v) ts = Ok v
-awaited_variable (meaning.Task t) ts = Err (fault_at ts wrong.WaitSkipped)
+awaited_variable (meaning.Task t) ts = Err (fault_at ts (if t.is_group then wrong.GroupValue else wrong.WaitSkipped))
 awaited_variable (meaning.OuterTask t) ts = Err (fault_at ts wrong.WaitSkipped)
 awaited_variable m ts = Err (fault_at ts wrong.NoTask)
 

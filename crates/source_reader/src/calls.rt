@@ -65,7 +65,7 @@ fn argument_at<'a>(
         (argument_at (names_of names.now) tokens.entry.now) }
 {
     let (value, rest) = whole_value(alloc, names, tokens)?;
-    let number = number_in(value, tokens)?;
+    let number = number_in(alloc, value, tokens)?;
     Ok((number, rest))
 }
 

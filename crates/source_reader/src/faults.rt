@@ -21,6 +21,8 @@ pub enum Wrong {
     NotAssigned,
     /// The value of a constant is not written as a number.
     NoConstant,
+    /// The step of a loop is 0.
+    NoStep,
     /// A constant or a cell below a function.
     LateItem,
     /// More constants and cells than a source may have.
@@ -33,8 +35,8 @@ pub enum Wrong {
     TooManyCells,
     /// A cell inside an expression.
     CellValue,
-    /// A comparison, where a number is wanted.
-    Comparison,
+    /// A division that `&&` or `||` may skip, where a number is wanted.
+    SkippedDivision,
     /// Too many operators and parentheses, or too many statements.
     TooLong,
     /// A statement that is never reached.
@@ -47,15 +49,19 @@ pub enum Wrong {
     UnknownFunction,
     /// A function is called with more or fewer arguments than it has parameters.
     ArgumentCount,
-    /// A task, where a variable is wanted, that was not waited for.
+    /// A task or a group, where a variable is wanted, that was not waited for.
     NotWaited,
     /// A wait for a task that may be skipped or done again here, or in a block inside the one that declares the task.
     WaitSkipped,
-    /// What is waited for is no task.
+    /// What is waited for is no task, or a group that was waited for before.
     NoTask,
-    /// A block inside that of the function ends, and a task of its own was not waited for.
+    /// What a group adds up to, inside an expression.
+    GroupValue,
+    /// Where a group that was not waited for is wanted, or a task to cancel, there is none of this name.
+    NotGroup,
+    /// A block inside that of the function ends, and a task or a group of its own was not waited for.
     TaskLeft,
-    /// More tasks that were not waited for than a function may have.
+    /// More tasks and groups that were not waited for than a function may have.
     NoGroup,
     /// More functions than a job may have.
     TooManyFunctions,

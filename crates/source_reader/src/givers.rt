@@ -8,7 +8,9 @@ ghost use Rattle.source_reader.specs.Trees.{stmt_tree_of};
 use crate::calls::{Run, run_at};
 use crate::cells::question_of;
 use crate::faults::ReadError;
-use crate::names::{Meaning, Names, meaning_of};
+use crate::groups::own_group_at;
+use crate::names::{Meaning, Names, TaskGroup, meaning_of};
+use crate::tasks::group_of;
 use crate::values::{after_close, after_first, after_open};
 use job_language::Key;
 use source_language::{Question, Stmt};
@@ -21,6 +23,8 @@ pub(crate) enum Giver {
     Call,
     Isolate,
     Cancelled,
+    /// A wait for the tasks of a group.
+    Wait(TaskGroup),
     /// A cell, or all of a key.
     Cell(Question),
 }
@@ -65,6 +69,7 @@ pub(crate) fn giver_at(names: &Names, tokens: &[Token]) -> Option<Giver>
         Kind::Call => Some(Giver::Call),
         Kind::Isolate => Some(Giver::Isolate),
         Kind::Cancelled => Some(Giver::Cancelled),
+        Kind::Wait => Some(Giver::Wait(own_group_at(names, rest)?)),
         Kind::Name(name) => named_giver(name, names, rest),
         _ => None,
     }
@@ -95,6 +100,10 @@ pub(crate) fn given_by<'a>(
         Giver::Call => run_at(alloc, names, Run::Call(Some(number)), rest),
         Giver::Isolate => run_at(alloc, names, Run::Isolate(number), rest),
         Giver::Cancelled => cancelled_at(number, rest),
+        Giver::Wait(group) => {
+            let wait = Stmt::Wait(Some(number), None, group_of(group));
+            Ok((wait, after_first(rest)))
+        }
         Giver::Cell(question) => Ok((Stmt::Read(number, question), after_first(rest))),
     }
 }

@@ -1,18 +1,18 @@
 // Constants and cells, and the functions below them.
 ghost use Rattle.std.specs.Prelude.{◌≡◌, map};
 ghost use Rattle.source_reader.specs.Faults.{Gives};
-ghost use Rattle.source_reader.specs.Trees.{tree_of, value_tree_of, function_tree_of};
+ghost use Rattle.source_reader.specs.Trees.{function_tree_of};
 ghost use Rattle.source_reader.specs.Names.{names_of};
-ghost use Rattle.source_reader.specs.Items.{constant_of, constant_in, constant_at, is_item, is_cell, declared_at, items_from};
+ghost use Rattle.source_reader.specs.Items.{constant_at, is_item, is_cell, declared_at, items_from};
 
+use crate::constants::constant_in;
 use crate::faults::{ReadError, Wrong, fault_at};
 use crate::functions::functions_from;
-use crate::joining::Value;
 use crate::keys::cell_at;
 use crate::lines::{after_line_ends, after_set, free_name, item_ended};
 use crate::names::{Meaning, Names};
 use crate::values::{after_first, whole_value};
-use source_language::{Expr, Function};
+use source_language::Function;
 use source_tokens::{Kind, Token};
 use std::alloc::Global;
 
@@ -21,25 +21,6 @@ pub const ITEMS: u8 = 100;
 
 /// How many functions a source may have.
 pub const FUNCTIONS: u8 = 16;
-
-fn constant_of(e: &Expr, tokens: &[Token]) -> Result<i64, ReadError>
-    ensures { Gives (λ n. n) result (constant_of (tree_of e.now) tokens.now) }
-{
-    match e {
-        Expr::Number(n) => Ok(*n),
-        _ => Err(fault_at(tokens, Wrong::NoConstant)),
-    }
-}
-
-/// A value that is written as a number.
-fn constant_in(value: &Value, tokens: &[Token]) -> Result<i64, ReadError>
-    ensures { Gives (λ n. n) result (constant_in (value_tree_of value.now) tokens.now) }
-{
-    match value {
-        Value::Number(e) => constant_of(e, tokens),
-        Value::Truth(_) => Err(fault_at(tokens, Wrong::NoConstant)),
-    }
-}
 
 /// `N = v`, behind `const` or `param`.
 pub(crate) fn constant_at<'a>(
@@ -53,7 +34,7 @@ pub(crate) fn constant_at<'a>(
     let name = free_name(names, tokens)?;
     let from = after_set(after_first(tokens))?;
     let (value, rest) = whole_value(alloc, names, from)?;
-    let number = constant_in(&value, from)?;
+    let number = constant_in(alloc, value, from)?;
     Ok((name, (number, rest)))
 }
 

@@ -1,10 +1,13 @@
 // Values, and operators between them.
 ghost use Rattle.std.specs.Prelude.{◌≡◌, Ok, IfOk};
+ghost use Rattle.source_language.specs.declared.syntax.Operator.TheVariants as op;
 ghost use Rattle.source_reader.specs.Faults.{Gives};
-ghost use Rattle.source_reader.specs.Trees.{tree_of, test_tree_of, value_tree_of, TwoTree, NotTree, BothTree, EitherTree, TruthTree};
-ghost use Rattle.source_reader.specs.Joining.{level_of, number_in, test_in, negative_of, operation, minus, joined, a_number, a_difference, no_difference};
+ghost use Rattle.source_reader.specs.Trees.{tree_of, test_tree_of, value_tree_of, NotTree, BothTree, EitherTree, TruthTree};
+ghost use Rattle.source_reader.specs.Joining.{level_of, number_in, test_in, operation, minus, complement, joined, a_number, a_difference};
 
 use crate::faults::{ReadError, Wrong, fault_at};
+use crate::folding::two_of;
+use crate::truths::{bit_of, may_skip};
 use source_language::{Expr, Operator, Test};
 use source_tokens::{Sign, Token};
 use std::alloc::{AllocError, Global};
@@ -29,21 +32,31 @@ pub(crate) fn level_of(sign: Sign) -> u8
         Sign::AtMost => 2,
         Sign::Above => 2,
         Sign::AtLeast => 2,
-        Sign::Plus => 3,
-        Sign::Minus => 3,
-        Sign::Times => 4,
-        Sign::Over => 4,
-        Sign::Remainder => 4,
+        Sign::BitOr => 3,
+        Sign::BitXor => 4,
+        Sign::BitAnd => 5,
+        Sign::ShiftLeft => 6,
+        Sign::ShiftRight => 6,
+        Sign::Plus => 7,
+        Sign::Minus => 7,
+        Sign::Times => 8,
+        Sign::Over => 8,
+        Sign::Remainder => 8,
     }
 }
 
-/// A value as a number.
-pub(crate) fn number_in(value: Value, tokens: &[Token]) -> Result<Expr, ReadError>
+/// A value as a number. A condition is 1 or 0, if it skips no division.
+pub(crate) fn number_in(alloc: Global, value: Value, tokens: &[Token]) -> Result<Expr, ReadError>
     ensures { Gives tree_of result (number_in (value_tree_of value) tokens.now) }
 {
     match value {
         Value::Number(e) => Ok(e),
-        Value::Truth(_) => Err(fault_at(tokens, Wrong::Comparison)),
+        Value::Truth(t) => {
+            if may_skip(&t) {
+                return Err(fault_at(tokens, Wrong::SkippedDivision));
+            }
+            Ok(bit_of(alloc, true, t)?)
+        }
     }
 }
 
@@ -57,13 +70,6 @@ pub(crate) fn test_in(value: Value) -> Test
     }
 }
 
-/// An operation of two numbers.
-pub(crate) fn two(alloc: Global, op: Operator, a: Expr, b: Expr) -> Result<Expr, AllocError>
-    ensures { IfOk result (λ e. tree_of e ≡ TwoTree op (tree_of a) (tree_of b)) }
-{
-    Ok(Expr::Two(op, Box::new(alloc, a)?, Box::new(alloc, b)?))
-}
-
 fn not(alloc: Global, t: Test) -> Result<Test, AllocError>
     ensures { IfOk result (λ r. test_tree_of r ≡ NotTree (test_tree_of t)) }
 {
@@ -74,17 +80,16 @@ fn not(alloc: Global, t: Test) -> Result<Test, AllocError>
 pub(crate) fn minus(alloc: Global, value: Value, tokens: &[Token]) -> Result<Value, ReadError>
     ensures { Gives value_tree_of result (minus (value_tree_of value) tokens.now) }
 {
-    let e = number_in(value, tokens)?;
-    Ok(Value::Number(negative_of(alloc, e)?))
+    let e = number_in(alloc, value, tokens)?;
+    Ok(Value::Number(two_of(alloc, Operator::Minus, Expr::Number(0), e)?))
 }
 
-fn negative_of(alloc: Global, e: Expr) -> Result<Expr, AllocError>
-    ensures { IfOk result (λ r. tree_of r ≡ negative_of (tree_of e)) }
+/// A value with each bit the other way round.
+pub(crate) fn complement(alloc: Global, value: Value, tokens: &[Token]) -> Result<Value, ReadError>
+    ensures { Gives value_tree_of result (complement (value_tree_of value) tokens.now) }
 {
-    match e {
-        Expr::Number(n) => Ok(Expr::Number(0i64.wrapping_sub(n))),
-        other => two(alloc, Operator::Minus, Expr::Number(0), other),
-    }
+    let e = number_in(alloc, value, tokens)?;
+    Ok(Value::Number(two_of(alloc, Operator::BitXor, e, Expr::Number(-1))?))
 }
 
 /// Whether a value is 0, as a condition.
@@ -108,17 +113,22 @@ pub(crate) fn joined(
     match sign {
         Sign::Or => either(alloc, a, b),
         Sign::And => both(alloc, a, b),
+        Sign::Equal => arithmetic(alloc, Operator::Equal, a, b, tokens),
+        Sign::Unequal => difference(alloc, a, b, tokens),
+        Sign::Below => arithmetic(alloc, Operator::Below, a, b, tokens),
+        Sign::AtMost => arithmetic(alloc, Operator::AtMost, a, b, tokens),
+        Sign::Above => arithmetic(alloc, Operator::Below, b, a, tokens),
+        Sign::AtLeast => arithmetic(alloc, Operator::AtMost, b, a, tokens),
+        Sign::BitOr => arithmetic(alloc, Operator::BitOr, a, b, tokens),
+        Sign::BitXor => arithmetic(alloc, Operator::BitXor, a, b, tokens),
+        Sign::BitAnd => arithmetic(alloc, Operator::BitAnd, a, b, tokens),
+        Sign::ShiftLeft => arithmetic(alloc, Operator::ShiftLeft, a, b, tokens),
+        Sign::ShiftRight => arithmetic(alloc, Operator::ShiftRight, a, b, tokens),
         Sign::Plus => arithmetic(alloc, Operator::Plus, a, b, tokens),
         Sign::Minus => arithmetic(alloc, Operator::Minus, a, b, tokens),
         Sign::Times => arithmetic(alloc, Operator::Times, a, b, tokens),
         Sign::Over => arithmetic(alloc, Operator::Over, a, b, tokens),
         Sign::Remainder => arithmetic(alloc, Operator::Remainder, a, b, tokens),
-        Sign::Below => arithmetic(alloc, Operator::Below, a, b, tokens),
-        Sign::Above => arithmetic(alloc, Operator::Below, b, a, tokens),
-        Sign::Equal => without(alloc, Operator::Minus, a, b, tokens),
-        Sign::AtMost => without(alloc, Operator::Below, b, a, tokens),
-        Sign::AtLeast => without(alloc, Operator::Below, a, b, tokens),
-        Sign::Unequal => with(alloc, Operator::Minus, a, b, tokens),
     }
 }
 
@@ -150,9 +160,9 @@ pub(crate) fn operation(
 ) -> Result<Expr, ReadError>
     ensures { Gives tree_of result (operation op (value_tree_of a) (value_tree_of b) tokens.now) }
 {
-    let first = number_in(a, tokens)?;
-    let second = number_in(b, tokens)?;
-    Ok(two(alloc, op, first, second)?)
+    let first = number_in(alloc, a, tokens)?;
+    let second = number_in(alloc, b, tokens)?;
+    Ok(two_of(alloc, op, first, second)?)
 }
 
 pub(crate) fn arithmetic(
@@ -168,31 +178,10 @@ pub(crate) fn arithmetic(
     Ok(Value::Number(operation(alloc, op, a, b, tokens)?))
 }
 
-/// Whether the operation gives another number than 0.
-fn with(
-    alloc: Global,
-    op: Operator,
-    a: Value,
-    b: Value,
-    tokens: &[Token],
-) -> Result<Value, ReadError>
+/// Whether two values differ, as a condition.
+fn difference(alloc: Global, a: Value, b: Value, tokens: &[Token]) -> Result<Value, ReadError>
     ensures { Gives value_tree_of result
-        (a_difference (operation op (value_tree_of a) (value_tree_of b) tokens.now)) }
+        (a_difference (operation op.Minus (value_tree_of a) (value_tree_of b) tokens.now)) }
 {
-    Ok(Value::Truth(Test::Holds(operation(alloc, op, a, b, tokens)?)))
-}
-
-/// Whether the operation gives 0.
-fn without(
-    alloc: Global,
-    op: Operator,
-    a: Value,
-    b: Value,
-    tokens: &[Token],
-) -> Result<Value, ReadError>
-    ensures { Gives value_tree_of result
-        (no_difference (operation op (value_tree_of a) (value_tree_of b) tokens.now)) }
-{
-    let difference = Test::Holds(operation(alloc, op, a, b, tokens)?);
-    Ok(Value::Truth(not(alloc, difference)?))
+    Ok(Value::Truth(Test::Holds(operation(alloc, Operator::Minus, a, b, tokens)?)))
 }

@@ -3,9 +3,13 @@
 
 mod calls;
 mod cells;
+mod constants;
+mod declaring;
 mod faults;
+mod folding;
 mod functions;
 mod givers;
+mod groups;
 mod headers;
 mod items;
 mod joining;
@@ -20,6 +24,7 @@ mod source;
 mod statements;
 mod tasks;
 mod trees;
+mod truths;
 mod values;
 mod waits;
 

@@ -207,6 +207,10 @@ pub(crate) fn let_name(tokens: &[Token]) -> Option<usize>
             let (second, _) = rest.split_first()?;
             name_in(second.kind)
         }
+        Kind::Group => {
+            let (second, _) = rest.split_first()?;
+            name_in(second.kind)
+        }
         _ => None,
     }
 }

@@ -2,7 +2,7 @@
 ghost use Rattle.std.specs.Prelude.{◌≡◌};
 ghost use Rattle.std.specs.Option.{option_map};
 ghost use Rattle.source_reader.specs.Faults.{Gives};
-ghost use Rattle.source_reader.specs.Names.{names_of, is_same_group, awaited, outer, meaning_of, number_after, number_behind, number_next, new_number};
+ghost use Rattle.source_reader.specs.Names.{names_of, is_same_group, behind_wait, awaited, outer, meaning_of, number_after, number_behind, number_past, number_next, new_number};
 
 use crate::faults::{ReadError, Wrong, fault_at};
 use crate::headers::Header;
@@ -18,11 +18,12 @@ pub(crate) enum TaskGroup {
 }
 
 /// A task that has a name: the variable that its value goes to, and its group, which no other task has before this one is
-/// waited for.
+/// waited for. Or any number of tasks, whose group has the name: their variable is the next one that is free.
 #[derive(Clone, Copy)]
 pub(crate) struct Task {
     pub(crate) variable: u8,
     pub(crate) group: TaskGroup,
+    pub(crate) is_group: bool,
 }
 
 /// What a name stands for.
@@ -32,11 +33,13 @@ pub(crate) enum Meaning {
     /// The index of a `for`, which can't be assigned to. The end is the variable behind it.
     Counter(u8),
     Constant(i64),
-    /// A task of this block, which was not waited for.
+    /// A task or a group of this block, which was not waited for.
     Task(Task),
     /// The variable of a task that was waited for.
     Awaited(u8),
-    /// A task of a block around this one, which was not waited for.
+    /// A group that was waited for, and the next variable that is free.
+    Closed(u8),
+    /// A task or a group of a block around this one, which was not waited for.
     OuterTask(Task),
     /// The cells of that key, one for each slot.
     Cell(Key),
@@ -66,6 +69,17 @@ pub(crate) fn is_same_group(a: TaskGroup, b: TaskGroup) -> bool
     }
 }
 
+/// What a name stands for behind a wait for its task.
+fn behind_wait(task: Task) -> Meaning
+    ensures { result ≡ behind_wait task }
+{
+    if task.is_group {
+        Meaning::Closed(task.variable)
+    } else {
+        Meaning::Awaited(task.variable)
+    }
+}
+
 /// What a name stands for behind a wait for the task of that group.
 fn awaited(group: TaskGroup, meaning: Meaning) -> Meaning
     ensures { result ≡ awaited group meaning }
@@ -73,7 +87,7 @@ fn awaited(group: TaskGroup, meaning: Meaning) -> Meaning
     match meaning {
         Meaning::Task(task) => {
             if is_same_group(task.group, group) {
-                Meaning::Awaited(task.variable)
+                behind_wait(task)
             } else {
                 meaning
             }
@@ -134,6 +148,17 @@ pub(crate) fn number_behind(number: u8, tokens: &[Token]) -> Result<u8, ReadErro
     }
 }
 
+/// The variable behind that of a task. A group has none.
+fn number_past(task: Task, tokens: &[Token]) -> Result<u8, ReadError>
+    ensures { Gives (λ n. n) result (number_past task tokens.now) }
+{
+    if task.is_group {
+        Ok(task.variable)
+    } else {
+        number_behind(task.variable, tokens)
+    }
+}
+
 /// The first variable that is free behind a name.
 fn number_next(meaning: Meaning, tokens: &[Token]) -> Result<u8, ReadError>
     ensures { Gives (λ n. n) result (number_next meaning tokens.now) }
@@ -142,9 +167,10 @@ fn number_next(meaning: Meaning, tokens: &[Token]) -> Result<u8, ReadError>
         Meaning::Variable(number) => number_behind(number, tokens),
         Meaning::Counter(number) => number_behind(number_after(number), tokens),
         Meaning::Constant(_) => Ok(0),
-        Meaning::Task(task) => number_behind(task.variable, tokens),
+        Meaning::Task(task) => number_past(task, tokens),
         Meaning::Awaited(number) => number_behind(number, tokens),
-        Meaning::OuterTask(task) => number_behind(task.variable, tokens),
+        Meaning::Closed(number) => Ok(number),
+        Meaning::OuterTask(task) => number_past(task, tokens),
         Meaning::Cell(_) => Ok(0),
     }
 }

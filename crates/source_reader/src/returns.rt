@@ -3,7 +3,7 @@ ghost use Rattle.std.specs.Prelude.{◌≡◌, IfOk};
 ghost use Rattle.source_reader.specs.Faults.{Gives};
 ghost use Rattle.source_reader.specs.Trees.{stmt_tree_of, value_tree_of};
 ghost use Rattle.source_reader.specs.Names.{names_of};
-ghost use Rattle.source_reader.specs.Returns.{variable_returned, kept_returned, returned_from, returned_by, something_returned, return_at};
+ghost use Rattle.source_reader.specs.Returns.{variable_returned, kept_returned, returned_from, behind, returned_by, something_returned, return_at};
 
 use crate::faults::{ReadError, Wrong, fault_at};
 use crate::givers::{Giver, given_by, giver_at};
@@ -59,6 +59,25 @@ fn variable_returned(alloc: Global, names: &Names, number: u8) -> Result<Stmt, A
     leaving(alloc, Reach::Function, names, value)
 }
 
+/// A variable is returned, behind what gives its value.
+fn returned_behind(
+    alloc: Global,
+    giver: Giver,
+    names: &Names,
+    number: u8,
+) -> Result<Stmt, AllocError>
+    ensures { IfOk result (λ s. stmt_tree_of s
+        ≡ variable_returned (behind giver (names_of names.now)) number) }
+{
+    match giver {
+        Giver::Wait(group) => {
+            let behind = Names::Waited(group, &*names);
+            variable_returned(alloc, &behind, number)
+        }
+        _ => variable_returned(alloc, names, number),
+    }
+}
+
 /// A value is returned. If a task was not waited for, one more variable keeps it until then.
 fn returned_from(
     alloc: Global,
@@ -102,6 +121,6 @@ fn returned_by<'a>(
 {
     let number = new_number(names, tokens)?;
     let (given, after) = given_by(alloc, giver, names, number, tokens)?;
-    let last = variable_returned(alloc, names, number)?;
+    let last = returned_behind(alloc, giver, names, number)?;
     Ok((then(alloc, given, last)?, after))
 }

@@ -7,12 +7,14 @@ ghost use Rattle.source_reader.specs.Simple.{condition_at, new_name, given_at, l
 
 use crate::calls::{Run, is_spawn, run_at, spawn_at};
 use crate::cells::store_at;
+use crate::constants::step_at;
 use crate::faults::{ReadError, Wrong, fault_at};
 use crate::givers::{Giver, given_by, giver_at};
+use crate::groups::own_group_at;
 use crate::joining::{Value, arithmetic, test_in};
 use crate::lines::{after_in, after_range, after_set, free_name};
 use crate::names::{Meaning, Names, meaning_of, new_number, number_behind};
-use crate::tasks::{Reach, pending};
+use crate::tasks::{Reach, group_of, pending_task};
 use crate::trees::assigned;
 use crate::values::{after_first, whole_value};
 use crate::waits::awaited_at;
@@ -129,6 +131,7 @@ fn assigned_to<'a>(
     match meaning {
         Meaning::Variable(number) => updated(alloc, names, number, rest),
         Meaning::Awaited(number) => updated(alloc, names, number, rest),
+        Meaning::Closed(_) => Err(fault_at(tokens, Wrong::NotAssigned)),
         Meaning::Task(_) => Err(fault_at(tokens, Wrong::NotWaited)),
         Meaning::OuterTask(_) => Err(fault_at(tokens, Wrong::NotWaited)),
         Meaning::Counter(_) => Err(fault_at(tokens, Wrong::NotAssigned)),
@@ -161,7 +164,7 @@ fn updated<'a>(
     }
 }
 
-/// `wait a`, behind `wait`. The wait itself stands before the statement.
+/// `wait a`, behind `wait`. For a task the wait itself stands before the statement.
 pub(crate) fn wait_at<'a>(
     names: &Names,
     tokens: &'a [Token],
@@ -169,6 +172,9 @@ pub(crate) fn wait_at<'a>(
     ensures { Gives (λ x. (stmt_tree_of x.0, x.1.now)) result
         (wait_at (names_of names.now) tokens.entry.now) }
 {
+    if let Some(group) = own_group_at(names, tokens) {
+        return Ok((Stmt::Wait(None, None, group_of(group)), after_first(tokens)));
+    }
     let _variable = awaited_at(names, tokens)?;
     Ok((Stmt::Skip, after_first(tokens)))
 }
@@ -182,7 +188,7 @@ pub(crate) fn sync_at<'a>(
     ensures { Gives (λ x. (stmt_tree_of x.0, x.1.now)) result
         (sync_at (names_of names.now) tokens.now rest.entry.now) }
 {
-    if pending(Reach::Function, names).is_none() {
+    if pending_task(Reach::Function, names).is_none() {
         Ok((Stmt::Skip, rest))
     } else {
         Err(fault_at(tokens, Wrong::WaitSkipped))
@@ -202,7 +208,8 @@ pub(crate) fn region_at<'a>(
     run_at(alloc, names, Run::Isolate(number), after_first(tokens))
 }
 
-/// The head of a loop that counts: its index and that one's variable, the variable of the end, and both values.
+/// The head of a loop that counts: its index and that one's variable, the variable of the end, both values, and by how
+/// much it counts.
 #[derive(Drop)]
 pub(crate) struct Count {
     pub(crate) name: usize,
@@ -210,9 +217,10 @@ pub(crate) struct Count {
     pub(crate) end: u8,
     pub(crate) low: Value,
     pub(crate) high: Value,
+    pub(crate) by: i64,
 }
 
-/// `i in a..b`, behind `for`.
+/// `i in a..b`, or `i in a..b step n`, behind `for`.
 pub(crate) fn count_at<'a>(
     alloc: Global,
     names: &Names,
@@ -228,12 +236,14 @@ pub(crate) fn count_at<'a>(
     let (low, rest) = whole_value(alloc, names, from)?;
     let to = after_range(rest)?;
     let (high, rest) = whole_value(alloc, names, to)?;
+    let (by, rest) = step_at(alloc, names, rest)?;
     let count = Count {
         name,
         index,
         end,
         low,
         high,
+        by,
     };
     Ok((count, rest))
 }

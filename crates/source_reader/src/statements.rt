@@ -1,22 +1,23 @@
 // Statements and blocks.
-ghost use Rattle.std.specs.Prelude.{◌≡◌, false, drop};
+ghost use Rattle.std.specs.Prelude.{◌≡◌, false};
 ghost use Rattle.source_reader.specs.Faults.{Gives};
 ghost use Rattle.source_reader.specs.Trees.{stmt_tree_of};
 ghost use Rattle.source_reader.specs.Names.{names_of};
-ghost use Rattle.source_reader.specs.Statements.{is_if, if_in_loop, let_meaning, line_and_rest, for_at, stmt_at, Block, Rest, Line, Otherwise};
+ghost use Rattle.source_reader.specs.Statements.{is_if, if_in_loop, line_and_rest, for_at, stmt_at, Block, Rest, Line, Otherwise};
 
-use crate::calls::{Run, is_spawn, run_at};
+use crate::calls::{Run, run_at};
+use crate::declaring::declared_meaning;
 use crate::faults::{ReadError, Wrong, fault_at};
+use crate::groups::{cancel_at, gathered, group_at, into_at};
 use crate::lines::{after_begin, after_end, after_line_ends, ended, let_name};
 use crate::loops::counting_loop;
-use crate::names::{Meaning, Names, Task, new_number};
+use crate::names::{Meaning, Names, new_number};
 use crate::returns::return_at;
 use crate::simple::{
     Count, assigned_at, condition_at, count_at, let_at, region_at, sync_at, wait_at,
 };
-use crate::tasks::{Reach, block_end, free_group, leaving, waited};
+use crate::tasks::{Reach, block_end, leaving, waited};
 use crate::trees::{choice, leaves, looped, then};
-use crate::values::after_first;
 use crate::waits::next_wait;
 use source_language::Stmt;
 use source_tokens::{Kind, Token};
@@ -49,27 +50,6 @@ fn if_in_loop<'a>(
     } else {
         Err(fault_at(tokens, Wrong::NoLoop))
     }
-}
-
-/// What follows `let x =`.
-fn behind_set(tokens: &[Token]) -> &[Token]
-    ensures { result.now ≡ drop 1 (drop 1 (drop 1 tokens.now)) }
-{
-    after_first(after_first(after_first(tokens)))
-}
-
-/// What a new variable stands for, by what follows `let x =`.
-fn let_meaning(names: &Names, number: u8, tokens: &[Token]) -> Result<Meaning, ReadError>
-    ensures { Gives (λ m. m) result (let_meaning (names_of names.now) number tokens.now) }
-{
-    if !is_spawn(tokens) {
-        return Ok(Meaning::Variable(number));
-    }
-    let group = free_group(names, tokens)?;
-    Ok(Meaning::Task(Task {
-        variable: number,
-        group,
-    }))
 }
 
 /// `{ .. }`.
@@ -117,7 +97,13 @@ fn rest_at<'a>(
         return Err(fault_at(lines, Wrong::NeverReached));
     }
     match next_wait(names, lines) {
-        None => lines_at(alloc, names, in_loop, fuel - 1, lines),
+        None => match gathered(names, lines) {
+            None => lines_at(alloc, names, names, in_loop, fuel - 1, lines),
+            Some(group) => {
+                let behind = Names::Waited(group, &*names);
+                lines_at(alloc, names, &behind, in_loop, fuel - 1, lines)
+            }
+        },
         Some(task) => {
             let behind = Names::Waited(task.group, &*names);
             let (others, after) = rest_at(alloc, &behind, in_loop, false, fuel - 1, lines)?;
@@ -126,30 +112,31 @@ fn rest_at<'a>(
     }
 }
 
-/// A statement, and those behind it, up to the end of a block.
+/// A statement, and those behind it, up to the end of a block. Behind it other names are seen.
 #[cycle(statements)]
 fn lines_at<'a>(
     alloc: Global,
     names: &Names,
+    behind: &Names,
     in_loop: bool,
     fuel: u16,
     tokens: &'a [Token],
 ) -> Result<(Stmt, &'a [Token]), ReadError>
     ensures { Gives (λ x. (stmt_tree_of x.0, x.1.now)) result
-        (line_and_rest (stmt_at fuel) (names_of names.now) in_loop tokens.entry.now) }
+        (line_and_rest (stmt_at fuel) (names_of names.now) (names_of behind.now) in_loop tokens.entry.now) }
 {
     let (first, rest) = line_at(alloc, names, in_loop, fuel, tokens)?;
     let rest = ended(rest)?;
     let left = leaves(&first);
     match let_name(tokens) {
         None => {
-            let (others, after) = rest_at(alloc, names, in_loop, left, fuel, rest)?;
+            let (others, after) = rest_at(alloc, behind, in_loop, left, fuel, rest)?;
             Ok((then(alloc, first, others)?, after))
         }
         Some(name) => {
-            let number = new_number(names, tokens)?;
-            let meaning = let_meaning(names, number, behind_set(tokens))?;
-            let inner = Names::Name(name, meaning, &*names);
+            let number = new_number(behind, tokens)?;
+            let meaning = declared_meaning(behind, number, tokens)?;
+            let inner = Names::Name(name, meaning, &*behind);
             let (others, after) = rest_at(alloc, &inner, in_loop, left, fuel, rest)?;
             Ok((then(alloc, first, others)?, after))
         }
@@ -183,6 +170,9 @@ fn line_at<'a>(
         Kind::Isolate => region_at(alloc, names, tokens),
         Kind::Post => run_at(alloc, names, Run::Post, rest),
         Kind::Wait => wait_at(names, rest),
+        Kind::Group => group_at(names, rest),
+        Kind::Spawn => into_at(alloc, names, rest),
+        Kind::Cancel => cancel_at(names, rest),
         Kind::Sync => sync_at(names, tokens, rest),
         Kind::Break => {
             let s = leaving(alloc, Reach::Loop, names, Stmt::Break(0))?;
@@ -228,11 +218,15 @@ fn for_at<'a>(
         end,
         low,
         high,
+        by,
     } = count;
     let named = Names::Name(name, Meaning::Counter(index), &*names);
     let inner = Names::Inner(true, &named);
     let (body, after) = block_at(alloc, &inner, true, fuel, rest)?;
-    Ok((counting_loop(alloc, index, end, low, high, body)?, after))
+    Ok((
+        counting_loop(alloc, index, end, by, low, high, body)?,
+        after,
+    ))
 }
 
 /// What may follow the block of an `if`.

@@ -1,8 +1,8 @@
-// Tasks that have names: which of them were not waited for, and the waits of what leaves them.
+// Tasks and groups that have names: which of them were not waited for, and the waits of what leaves them.
 ghost use Rattle.std.specs.Prelude.{◌≡◌, IfOk};
 ghost use Rattle.source_reader.specs.Faults.{Gives};
 ghost use Rattle.source_reader.specs.Names.{names_of};
-ghost use Rattle.source_reader.specs.Tasks.{group_number, ends_at, of_group, task_in, pending, free_group, is_outermost, waited, dropped, leaving, block_end};
+ghost use Rattle.source_reader.specs.Tasks.{group_number, ends_at, of_group, task_in, pending, if_task, pending_task, free_group, is_outermost, waited, dropped, leaving, block_end};
 ghost use Rattle.source_reader.specs.Trees.{stmt_tree_of};
 
 use crate::faults::{ReadError, Wrong, fault_at};
@@ -95,6 +95,29 @@ pub(crate) fn pending(reach: Reach, names: &Names) -> Option<Task>
         None => match task_in(reach, TaskGroup::Second, names) {
             Some(task) => Some(task),
             None => task_in(reach, TaskGroup::Third, names),
+        },
+    }
+}
+
+/// A task that is no group.
+pub(crate) fn if_task(task: Option<Task>) -> Option<Task>
+    ensures { result ≡ if_task task }
+{
+    match task {
+        Some(task) => { if task.is_group { None } else { Some(task) } }
+        None => None,
+    }
+}
+
+/// The first task that was not waited for and is no group.
+pub(crate) fn pending_task(reach: Reach, names: &Names) -> Option<Task>
+    ensures { result ≡ pending_task reach (names_of names.now) }
+{
+    match if_task(task_in(reach, TaskGroup::First, names)) {
+        Some(task) => Some(task),
+        None => match if_task(task_in(reach, TaskGroup::Second, names)) {
+            Some(task) => Some(task),
+            None => if_task(task_in(reach, TaskGroup::Third, names)),
         },
     }
 }

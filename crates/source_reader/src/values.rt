@@ -1,12 +1,12 @@
-// Values: operators of five levels between numbers, variables and values in parentheses.
+// Values: operators of nine levels between numbers, variables and values in parentheses.
 ghost use Rattle.std.specs.Prelude.{◌≡◌, drop};
 ghost use Rattle.source_reader.specs.Faults.{Gives};
 ghost use Rattle.source_reader.specs.Trees.{tree_of, value_tree_of};
 ghost use Rattle.source_reader.specs.Names.{names_of, meaning_of};
-ghost use Rattle.source_reader.specs.Values.{after_open, after_close, sign_at, worth, named, awaited_value, without_arguments, value_at, whole_value, Level, More, Single};
+ghost use Rattle.source_reader.specs.Values.{after_open, after_close, sign_at, has_opposite, worth, named, awaited_value, without_arguments, value_at, whole_value, Level, More, Single};
 
 use crate::faults::{ReadError, Wrong, fault_at};
-use crate::joining::{Value, joined, level_of, minus, opposite};
+use crate::joining::{Value, complement, joined, level_of, minus, opposite};
 use crate::names::{Meaning, Names, meaning_of};
 use crate::waits::awaited_at;
 use source_language::Expr;
@@ -14,10 +14,10 @@ use source_tokens::{Kind, Sign, Token};
 use std::alloc::Global;
 
 /// How long a value may be.
-pub const VALUE_FUEL: u16 = 400;
+pub const VALUE_FUEL: u16 = 600;
 
 /// The level above the tightest operators.
-const LEVELS: u8 = 5;
+const LEVELS: u8 = 9;
 
 /// What follows `(`.
 pub(crate) fn after_open(tokens: &[Token]) -> Result<&[Token], ReadError>
@@ -74,6 +74,19 @@ fn sign_at(level: u8, tokens: &[Token]) -> Option<Sign>
     }
 }
 
+/// Whether a minus sign may stand before this. The opposite of 2^63 is a number, but not those of the numbers above.
+fn has_opposite(tokens: &[Token]) -> bool
+    ensures { result ≡ has_opposite tokens.now }
+{
+    match tokens.split_first() {
+        Some((first, _)) => match first.kind {
+            Kind::Number(n) => 0 <= n || n == i64::MIN,
+            _ => true,
+        },
+        None => true,
+    }
+}
+
 /// What a name is worth that stands for this. It is the first of the tokens. No expression asks a cell.
 fn worth(meaning: Meaning, tokens: &[Token]) -> Result<Expr, ReadError>
     ensures { Gives tree_of result (worth meaning tokens.now) }
@@ -83,6 +96,7 @@ fn worth(meaning: Meaning, tokens: &[Token]) -> Result<Expr, ReadError>
         Meaning::Counter(number) => Ok(Expr::Variable(number)),
         Meaning::Constant(number) => Ok(Expr::Number(number)),
         Meaning::Awaited(number) => Ok(Expr::Variable(number)),
+        Meaning::Closed(_) => Err(fault_at(tokens, Wrong::GroupValue)),
         Meaning::Task(_) => Err(fault_at(tokens, Wrong::NotWaited)),
         Meaning::OuterTask(_) => Err(fault_at(tokens, Wrong::NotWaited)),
         Meaning::Cell(_) => Err(fault_at(tokens, Wrong::CellValue)),
@@ -199,8 +213,15 @@ fn single_at<'a>(
         Kind::Width => without_arguments(Expr::Width, rest),
         Kind::Wait => awaited_value(names, rest),
         Kind::Sign(Sign::Minus) => {
+            if !has_opposite(rest) {
+                return Err(fault_at(rest, Wrong::Unexpected));
+            }
             let (value, after) = single_at(alloc, names, fuel - 1, rest)?;
             Ok((minus(alloc, value, tokens)?, after))
+        }
+        Kind::Complement => {
+            let (value, after) = single_at(alloc, names, fuel - 1, rest)?;
+            Ok((complement(alloc, value, tokens)?, after))
         }
         Kind::Not => {
             let (value, after) = single_at(alloc, names, fuel - 1, rest)?;

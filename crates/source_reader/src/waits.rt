@@ -6,14 +6,14 @@ ghost use Rattle.source_reader.specs.Waits.{named_task, is_unread, task_at, ahea
 
 use crate::faults::{ReadError, Wrong, fault_at};
 use crate::names::{Meaning, Names, Task, meaning_of};
-use crate::tasks::{Reach, pending};
+use crate::tasks::{Reach, if_task, pending_task};
 use source_tokens::{Kind, Sign, Token};
 
 fn named_task(meaning: Option<Meaning>) -> Option<Task>
     ensures { result ≡ named_task meaning }
 {
     match meaning {
-        Some(Meaning::Task(task)) => Some(task),
+        Some(Meaning::Task(task)) => if_task(Some(task)),
         _ => None,
     }
 }
@@ -23,13 +23,13 @@ fn is_unread(meaning: Option<Meaning>) -> bool
     ensures { result ≡ is_unread meaning }
 {
     match meaning {
-        Some(Meaning::Task(_)) => true,
-        Some(Meaning::OuterTask(_)) => true,
+        Some(Meaning::Task(task)) => !task.is_group,
+        Some(Meaning::OuterTask(task)) => !task.is_group,
         _ => false,
     }
 }
 
-/// The task of the name at the front, if it may be waited for here.
+/// The task of the name at the front, if it may be waited for before the line.
 fn task_at(names: &Names, tokens: &[Token]) -> Option<Task>
     ensures { result ≡ task_at (names_of names.now) tokens.now }
 {
@@ -105,7 +105,7 @@ pub(crate) fn next_wait(names: &Names, tokens: &[Token]) -> Option<Task>
 {
     let (first, _) = tokens.split_first()?;
     match first.kind {
-        Kind::Sync => pending(Reach::Block, names),
+        Kind::Sync => pending_task(Reach::Block, names),
         Kind::While => None,
         Kind::Name(name) => {
             if is_cell(meaning_of(name, names)) {
@@ -124,7 +124,13 @@ fn awaited_variable(meaning: Meaning, tokens: &[Token]) -> Result<u8, ReadError>
 {
     match meaning {
         Meaning::Awaited(number) => Ok(number),
-        Meaning::Task(_) => Err(fault_at(tokens, Wrong::WaitSkipped)),
+        Meaning::Task(task) => {
+            if task.is_group {
+                Err(fault_at(tokens, Wrong::GroupValue))
+            } else {
+                Err(fault_at(tokens, Wrong::WaitSkipped))
+            }
+        }
         Meaning::OuterTask(_) => Err(fault_at(tokens, Wrong::WaitSkipped)),
         _ => Err(fault_at(tokens, Wrong::NoTask)),
     }

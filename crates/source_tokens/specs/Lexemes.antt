@@ -29,9 +29,14 @@ abbrev pub is_comment : ℕ → List ℕ → Bool
 is_comment a [] = a == 35
 is_comment a (b ∷ bs) = a == 35 || (a == 47 && b == 47)
 
+-- whether two bytes and those behind them begin with `<<=` or `>>=`
+abbrev pub is_triple : ℕ → ℕ → List ℕ → Bool
+is_triple a b [] = false
+is_triple a b (c ∷ cs) = ((a == 60 && b == 60) || (a == 62 && b == 62)) && c == 61
+
 abbrev pub sign_len : ℕ → List ℕ → ℕ
 sign_len a [] = 1
-sign_len a (b ∷ bs) = if is_pair a b then 2 else 1
+sign_len a (b ∷ bs) = if is_triple a b bs then 3 else (if is_pair a b then 2 else 1)
 
 -- whether a part of a cell begins with this byte, before the others
 abbrev pub is_part : ℕ → List ℕ → Bool

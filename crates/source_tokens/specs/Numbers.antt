@@ -1,21 +1,37 @@
 -- Numbers of a source.
-use Rattle.std.specs.Prelude.{ℕ, ◌+◌, ◌-◌, ◌*◌, ◌==◌, nat_lt, ℤ, pos, List, [], ◌∷◌, Option, Some, None, option_and_then, if◌then◌else◌}
+use Rattle.std.specs.Prelude.{ℕ, ◌+◌, ◌-◌, ◌*◌, ◌==◌, ◌&&◌, nat_lt, nat_le, ℤ, Bool, false, List, [], ◌∷◌, drop, Option, Some, None, option_and_then, if◌then◌else◌}
+use Rattle.std.specs.Int.{cast_signed, w64}
+use Rattle.std.specs.Option.{option_map}
 use Rattle.source_tokens.specs.Bytes.{is_digit}
 
--- a number, if it is below 2^63
+-- what a byte is worth as a digit of base 16; 16 if it is none
+abbrev pub digit_worth : ℕ → ℕ
+digit_worth b =
+    if is_digit b then b - 48
+    else if nat_le 97 b && nat_le b 102 then b - 87
+    else if nat_le 65 b && nat_le b 70 then b - 55
+    else 16
+
+-- a number, if it is below 2^64
 abbrev pub if_fits : ℕ → Option ℕ
-if_fits n = if nat_lt n 9223372036854775808 then Some n else None
+if_fits n = if nat_lt n 18446744073709551616 then Some n else None
 
--- a number with one more digit; `_` adds none
-abbrev pub digit_added : ℕ → ℕ → Option ℕ
-digit_added n b = if b == 95 then Some n else (if is_digit b then if_fits (n * 10 + (b - 48)) else None)
+-- a number with one more digit of that base; `_` adds none
+abbrev pub digit_added : (base : ℕ) → ℕ → ℕ → Option ℕ
+digit_added base n b = if b == 95 then Some n else (if nat_lt (digit_worth b) base then if_fits (n * base + digit_worth b) else None)
 
-abbrev pub with_digits : ℕ → List ℕ → Option ℕ
-with_digits n [] = Some n
-with_digits n (b ∷ bs) = option_and_then (λ m. with_digits m bs) (digit_added n b)
+abbrev pub with_digits : (base : ℕ) → ℕ → List ℕ → Option ℕ
+with_digits base n [] = Some n
+with_digits base n (b ∷ bs) = option_and_then (λ m. with_digits base m bs) (digit_added base n b)
 
-abbrev pub signed : ℕ → Option ℤ
-signed n = if nat_lt n 9223372036854775808 then Some (pos n) else None
+-- whether a number begins with `0x` and a digit
+abbrev pub is_hex : List ℕ → Bool
+is_hex (a ∷ x ∷ b ∷ bs) = (a == 48 && x == 120) && nat_lt (digit_worth b) 16
+is_hex bs = false
 
+abbrev pub magnitude_of : List ℕ → Option ℕ
+magnitude_of bs = if is_hex bs then with_digits 16 0 (drop 2 bs) else with_digits 10 0 bs
+
+-- From 2^63 on a number stands for the one with a sign that has the same bits.
 abbrev pub number_of : List ℕ → Option ℤ
-number_of bs = option_and_then signed (with_digits 0 bs)
+number_of bs = option_map (cast_signed w64) (magnitude_of bs)

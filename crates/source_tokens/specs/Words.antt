@@ -45,11 +45,12 @@ asking_word lexeme =
     else if bytes_eq lexeme (codes "call") then Some kind.Call
     else None
 
--- `for` or `in`
+-- `for`, `in` or `step`
 abbrev pub counting_word : List ℕ → Option Kind
 counting_word lexeme =
     if bytes_eq lexeme (codes "for") then Some kind.For
     else if bytes_eq lexeme (codes "in") then Some kind.In
+    else if bytes_eq lexeme (codes "step") then Some kind.Step
     else None
 
 -- `const` or `param`
@@ -65,6 +66,13 @@ waiting_word lexeme =
     if bytes_eq lexeme (codes "spawn") then Some kind.Spawn
     else if bytes_eq lexeme (codes "wait") then Some kind.Wait
     else if bytes_eq lexeme (codes "sync") then Some kind.Sync
+    else None
+
+-- `group` or `cancel`
+abbrev pub group_word : List ℕ → Option Kind
+group_word lexeme =
+    if bytes_eq lexeme (codes "group") then Some kind.Group
+    else if bytes_eq lexeme (codes "cancel") then Some kind.Cancel
     else None
 
 -- `isolate` or `post`
@@ -93,9 +101,9 @@ part_word lexeme =
 abbrev pub shared_word : List ℕ → Option Kind
 shared_word lexeme = first_of (region_word lexeme) (first_of (cell_word lexeme) (part_word lexeme))
 
--- a word of tasks that are waited for, or of what tasks share
+-- a word of tasks and their groups, or of what tasks share
 abbrev pub task_word : List ℕ → Option Kind
-task_word lexeme = first_of (waiting_word lexeme) (shared_word lexeme)
+task_word lexeme = first_of (waiting_word lexeme) (first_of (group_word lexeme) (shared_word lexeme))
 
 -- a word of counting loops, of constants, or of tasks
 abbrev pub later_word : List ℕ → Option Kind
@@ -115,9 +123,11 @@ mark_named lexeme =
     else if bytes_eq lexeme (codes "{") then Some kind.Begin
     else if bytes_eq lexeme (codes "}") then Some kind.End
     else if bytes_eq lexeme (codes ",") then Some kind.Comma
+    else if bytes_eq lexeme (codes ":") then Some kind.Colon
     else if bytes_eq lexeme (codes "..") then Some kind.Range
     else if bytes_eq lexeme (codes "=") then Some kind.Set
     else if bytes_eq lexeme (codes "!") then Some kind.Not
+    else if bytes_eq lexeme (codes "~") then Some kind.Complement
     else if bytes_eq lexeme (codes "@") then Some kind.At
     else None
 
@@ -137,6 +147,11 @@ sign_named lexeme =
     else if bytes_eq lexeme (codes "*") then Some sign.Times
     else if bytes_eq lexeme (codes "/") then Some sign.Over
     else if bytes_eq lexeme (codes "%") then Some sign.Remainder
+    else if bytes_eq lexeme (codes "&") then Some sign.BitAnd
+    else if bytes_eq lexeme (codes "|") then Some sign.BitOr
+    else if bytes_eq lexeme (codes "^") then Some sign.BitXor
+    else if bytes_eq lexeme (codes "<<") then Some sign.ShiftLeft
+    else if bytes_eq lexeme (codes ">>") then Some sign.ShiftRight
     else None
 
 -- an operator with `=`
@@ -147,14 +162,12 @@ update_named lexeme =
     else if bytes_eq lexeme (codes "*=") then Some op.Times
     else if bytes_eq lexeme (codes "/=") then Some op.Over
     else if bytes_eq lexeme (codes "%=") then Some op.Remainder
+    else if bytes_eq lexeme (codes "&=") then Some op.BitAnd
+    else if bytes_eq lexeme (codes "|=") then Some op.BitOr
+    else if bytes_eq lexeme (codes "^=") then Some op.BitXor
+    else if bytes_eq lexeme (codes "<<=") then Some op.ShiftLeft
+    else if bytes_eq lexeme (codes ">>=") then Some op.ShiftRight
     else None
-
--- a word of groups of tasks
-abbrev pub is_group_word : List ℕ → Bool
-is_group_word lexeme =
-    if bytes_eq lexeme (codes "group") then true
-    else if bytes_eq lexeme (codes "cancel") then true
-    else false
 
 -- a word of items
 abbrev pub is_item_word : List ℕ → Bool
@@ -178,7 +191,7 @@ is_giving_word lexeme =
 
 -- a word of the language that is not taken
 abbrev pub is_other_word : List ℕ → Bool
-is_other_word lexeme = ((is_group_word lexeme || is_item_word lexeme) || is_gathering_word lexeme) || is_giving_word lexeme
+is_other_word lexeme = (is_item_word lexeme || is_gathering_word lexeme) || is_giving_word lexeme
 
 abbrev pub update_kind : Option Operator → List ℕ → Option Kind
 update_kind (Some o) lexeme = Some (kind.Update o)

@@ -1,6 +1,6 @@
 // Lexemes: the pieces of a source.
 ghost use Rattle.std.specs.Prelude.{◌≡◌, ◌+◌, ◌++◌, map, drop, take, length, IfOk, ◌<◌};
-ghost use Rattle.source_tokens.specs.Lexemes.{view_lexeme, is_pair, is_comment, sign_len, is_part, mark_len, lexeme_len, lexemes_at, lexemes_of};
+ghost use Rattle.source_tokens.specs.Lexemes.{view_lexeme, is_pair, is_comment, is_triple, sign_len, is_part, mark_len, lexeme_len, lexemes_at, lexemes_of};
 
 use crate::bytes::{is_letter, is_word, line_len, word_len};
 use std::alloc::{AllocError, Global};
@@ -44,12 +44,32 @@ fn is_comment(first: u8, rest: &[u8]) -> bool
     }
 }
 
+/// Whether two bytes and those behind them begin with `<<=` or `>>=`.
+fn is_triple(first: u8, second: u8, rest: &[u8]) -> bool
+    ensures { result ≡ is_triple first second rest.now }
+{
+    match rest.split_first() {
+        Some((third, _)) => {
+            (first == b'<' && second == b'<' || first == b'>' && second == b'>') && *third == b'='
+        }
+        None => false,
+    }
+}
+
 /// The length of a sign, or of a byte that is none.
 fn sign_len(first: u8, rest: &[u8]) -> usize
     ensures { result ≡ sign_len first rest.now }
 {
     match rest.split_first() {
-        Some((second, _)) => { if is_pair(first, *second) { 2 } else { 1 } }
+        Some((second, others)) => {
+            if is_triple(first, *second, others) {
+                3
+            } else if is_pair(first, *second) {
+                2
+            } else {
+                1
+            }
+        }
         None => 1,
     }
 }

@@ -6,6 +6,7 @@ mod lexemes;
 mod numbers;
 mod others;
 mod scanning;
+mod signs;
 mod tokens;
 mod words;
 

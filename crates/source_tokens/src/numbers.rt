@@ -1,43 +1,88 @@
 // Numbers of a source.
-ghost use Rattle.std.specs.Prelude.{◌≡◌};
-ghost use Rattle.source_tokens.specs.Numbers.{digit_added, with_digits, number_of};
+ghost use Rattle.std.specs.Prelude.{◌≡◌, ◌+◌, ◌*◌, drop};
+ghost use Rattle.source_tokens.specs.Numbers.{digit_worth, if_fits, digit_added, with_digits, is_hex, magnitude_of, number_of};
 
 use crate::bytes::is_digit;
 
-/// A number with one more digit, if it is below 2^63. `_` adds none.
-fn digit_added(number: u64, byte: u8) -> Option<u64>
-    ensures { result ≡ digit_added number byte }
+/// What a byte is worth as a digit of base 16; 16 if it is none.
+fn digit_worth(byte: u8) -> u64
+    ensures { result ≡ digit_worth byte }
 {
-    if byte == 95 {
-        return Some(number);
+    if is_digit(byte) {
+        u64::from(byte - 48)
+    } else if 97 <= byte && byte <= 102 {
+        u64::from(byte - 87)
+    } else if 65 <= byte && byte <= 70 {
+        u64::from(byte - 55)
+    } else {
+        16
     }
-    if is_digit(byte) && number <= 922_337_203_685_477_580 {
-        let longer = number * 10 + u64::from(byte - 48);
-        if longer < 9_223_372_036_854_775_808 {
-            return Some(longer);
-        }
+}
+
+/// A number with a digit behind it, if it is below 2^64.
+fn longer(base: u64, number: u64, digit: u64) -> Option<u64>
+    ensures { result ≡ if_fits (number * base + digit) }
+{
+    number.checked_mul(base)?.checked_add(digit)
+}
+
+/// A number with one more digit of that base, if it is below 2^64. `_` adds none.
+fn digit_added(base: u64, number: u64, byte: u8) -> Option<u64>
+    ensures { result ≡ digit_added base number byte }
+{
+    let digit = digit_worth(byte);
+    if byte == b'_' {
+        Some(number)
+    } else if digit < base {
+        longer(base, number, digit)
+    } else {
+        None
     }
-    None
 }
 
 /// A number with more digits.
-fn with_digits(number: u64, text: &[u8]) -> Option<u64>
-    ensures { result ≡ with_digits number text.now }
+fn with_digits(base: u64, number: u64, text: &[u8]) -> Option<u64>
+    ensures { result ≡ with_digits base number text.now }
 {
     match text.split_first() {
-        Some((first, rest)) => with_digits(digit_added(number, *first)?, rest),
+        Some((first, rest)) => with_digits(base, digit_added(base, number, *first)?, rest),
         None => Some(number),
     }
 }
 
-/// The number that a lexeme is.
+/// Whether a number begins with `0x` and a digit.
+fn is_hex(text: &[u8]) -> bool
+    ensures { result ≡ is_hex text.now }
+{
+    match text {
+        [b'0', b'x', third, ..] => digit_worth(*third) < 16,
+        _ => false,
+    }
+}
+
+/// What follows the first two bytes.
+fn behind_two(text: &[u8]) -> &[u8]
+    ensures { result.now ≡ drop 2 text.now }
+{
+    match text {
+        [_, _, rest @ ..] => rest,
+        _ => &[],
+    }
+}
+
+fn magnitude_of(text: &[u8]) -> Option<u64>
+    ensures { result ≡ magnitude_of text.now }
+{
+    if is_hex(text) {
+        with_digits(16, 0, behind_two(text))
+    } else {
+        with_digits(10, 0, text)
+    }
+}
+
+/// The number that a lexeme is. From 2^63 on it stands for the one with a sign that has the same bits.
 pub(crate) fn number_of(text: &[u8]) -> Option<i64>
     ensures { result ≡ number_of text.now }
 {
-    let number = with_digits(0, text)?;
-    if number < 9_223_372_036_854_775_808 {
-        Some(number as i64)
-    } else {
-        None
-    }
+    Some(magnitude_of(text)?.cast_signed())
 }

@@ -1,6 +1,6 @@
 // Words of the language that are not taken.
 ghost use Rattle.std.specs.Prelude.{◌≡◌};
-ghost use Rattle.source_tokens.specs.Words.{is_other_word, is_group_word, is_item_word, is_gathering_word, is_giving_word};
+ghost use Rattle.source_tokens.specs.Words.{is_other_word, is_item_word, is_gathering_word, is_giving_word};
 
 use crate::words::is;
 
@@ -8,17 +8,7 @@ use crate::words::is;
 pub(crate) fn is_other_word(lexeme: &[u8]) -> bool
     ensures { result ≡ is_other_word lexeme.now }
 {
-    is_group_word(lexeme)
-        || is_item_word(lexeme)
-        || is_gathering_word(lexeme)
-        || is_giving_word(lexeme)
-}
-
-/// A word of groups of tasks.
-fn is_group_word(lexeme: &[u8]) -> bool
-    ensures { result ≡ is_group_word lexeme.now }
-{
-    is(lexeme, b"group") || is(lexeme, b"cancel")
+    is_item_word(lexeme) || is_gathering_word(lexeme) || is_giving_word(lexeme)
 }
 
 /// A word of items.

@@ -17,6 +17,11 @@ pub enum Sign {
     Times,
     Over,
     Remainder,
+    BitAnd,
+    BitOr,
+    BitXor,
+    ShiftLeft,
+    ShiftRight,
 }
 
 /// What is asked of a cell.
@@ -43,6 +48,8 @@ pub enum Kind {
     Set,
     /// `!`
     Not,
+    /// `~`
+    Complement,
     /// `(`
     Open,
     /// `)`
@@ -52,6 +59,7 @@ pub enum Kind {
     /// `}`
     End,
     Comma,
+    Colon,
     /// `..`
     Range,
     /// The end of a line, or `;`.
@@ -72,8 +80,11 @@ pub enum Kind {
     Spawn,
     Wait,
     Sync,
+    Group,
+    Cancel,
     For,
     In,
+    Step,
     /// `const` or `param`.
     Const,
     Isolate,

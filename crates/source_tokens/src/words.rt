@@ -1,11 +1,10 @@
-// Words and signs of the language.
+// Words of the language.
 ghost use Rattle.std.specs.Prelude.{◌≡◌};
 ghost use Rattle.std.specs.Str.{bytes_eq};
-ghost use Rattle.source_tokens.specs.Words.{word_named, opening_word, choice_word, leaving_word, asking_word, counting_word, constant_word, waiting_word, region_word, cell_word, part_word, shared_word, task_word, later_word, mark_named, sign_named, update_named, sign_kind, kind_named};
+ghost use Rattle.source_tokens.specs.Words.{word_named, opening_word, choice_word, leaving_word, asking_word, counting_word, constant_word, waiting_word, group_word, region_word, cell_word, part_word, shared_word, task_word, later_word, kind_named};
 
-use crate::others::is_other_word;
-use crate::tokens::{Kind, Part, Sign};
-use source_language::Operator;
+use crate::signs::{mark_named, sign_kind};
+use crate::tokens::{Kind, Part};
 
 /// The kind of a word or sign of the language.
 pub(crate) fn kind_named(lexeme: &[u8]) -> Option<Kind>
@@ -16,25 +15,6 @@ pub(crate) fn kind_named(lexeme: &[u8]) -> Option<Kind>
         None => match mark_named(lexeme) {
             Some(kind) => Some(kind),
             None => sign_kind(lexeme),
-        },
-    }
-}
-
-/// The kind of an operator, or of a word that is not taken.
-fn sign_kind(lexeme: &[u8]) -> Option<Kind>
-    ensures { result ≡ sign_kind lexeme.now }
-{
-    match sign_named(lexeme) {
-        Some(sign) => Some(Kind::Sign(sign)),
-        None => match update_named(lexeme) {
-            Some(op) => Some(Kind::Update(op)),
-            None => {
-                if is_other_word(lexeme) {
-                    Some(Kind::Other)
-                } else {
-                    None
-                }
-            }
         },
     }
 }
@@ -125,7 +105,7 @@ fn asking_word(lexeme: &[u8]) -> Option<Kind>
     }
 }
 
-/// `for` or `in`.
+/// `for`, `in` or `step`.
 fn counting_word(lexeme: &[u8]) -> Option<Kind>
     ensures { result ≡ counting_word lexeme.now }
 {
@@ -133,6 +113,8 @@ fn counting_word(lexeme: &[u8]) -> Option<Kind>
         Some(Kind::For)
     } else if is(lexeme, b"in") {
         Some(Kind::In)
+    } else if is(lexeme, b"step") {
+        Some(Kind::Step)
     } else {
         None
     }
@@ -161,6 +143,19 @@ fn waiting_word(lexeme: &[u8]) -> Option<Kind>
         Some(Kind::Wait)
     } else if is(lexeme, b"sync") {
         Some(Kind::Sync)
+    } else {
+        None
+    }
+}
+
+/// `group` or `cancel`.
+fn group_word(lexeme: &[u8]) -> Option<Kind>
+    ensures { result ≡ group_word lexeme.now }
+{
+    if is(lexeme, b"group") {
+        Some(Kind::Group)
+    } else if is(lexeme, b"cancel") {
+        Some(Kind::Cancel)
     } else {
         None
     }
@@ -220,13 +215,16 @@ fn shared_word(lexeme: &[u8]) -> Option<Kind>
     }
 }
 
-/// A word of tasks that are waited for, or of what tasks share.
+/// A word of tasks and their groups, or of what tasks share.
 fn task_word(lexeme: &[u8]) -> Option<Kind>
     ensures { result ≡ task_word lexeme.now }
 {
     match waiting_word(lexeme) {
         Some(kind) => Some(kind),
-        None => shared_word(lexeme),
+        None => match group_word(lexeme) {
+            Some(kind) => Some(kind),
+            None => shared_word(lexeme),
+        },
     }
 }
 
@@ -240,61 +238,5 @@ fn later_word(lexeme: &[u8]) -> Option<Kind>
             Some(kind) => Some(kind),
             None => task_word(lexeme),
         },
-    }
-}
-
-/// A sign that is no operator.
-fn mark_named(lexeme: &[u8]) -> Option<Kind>
-    ensures { result ≡ mark_named lexeme.now }
-{
-    match lexeme {
-        b"\n" => Some(Kind::LineEnd),
-        b";" => Some(Kind::LineEnd),
-        b"(" => Some(Kind::Open),
-        b")" => Some(Kind::Close),
-        b"{" => Some(Kind::Begin),
-        b"}" => Some(Kind::End),
-        b"," => Some(Kind::Comma),
-        b".." => Some(Kind::Range),
-        b"=" => Some(Kind::Set),
-        b"!" => Some(Kind::Not),
-        b"@" => Some(Kind::At),
-        _ => None,
-    }
-}
-
-/// An operator.
-fn sign_named(lexeme: &[u8]) -> Option<Sign>
-    ensures { result ≡ sign_named lexeme.now }
-{
-    match lexeme {
-        b"||" => Some(Sign::Or),
-        b"&&" => Some(Sign::And),
-        b"==" => Some(Sign::Equal),
-        b"!=" => Some(Sign::Unequal),
-        b"<" => Some(Sign::Below),
-        b"<=" => Some(Sign::AtMost),
-        b">" => Some(Sign::Above),
-        b">=" => Some(Sign::AtLeast),
-        b"+" => Some(Sign::Plus),
-        b"-" => Some(Sign::Minus),
-        b"*" => Some(Sign::Times),
-        b"/" => Some(Sign::Over),
-        b"%" => Some(Sign::Remainder),
-        _ => None,
-    }
-}
-
-/// An operator with `=`.
-fn update_named(lexeme: &[u8]) -> Option<Operator>
-    ensures { result ≡ update_named lexeme.now }
-{
-    match lexeme {
-        b"+=" => Some(Operator::Plus),
-        b"-=" => Some(Operator::Minus),
-        b"*=" => Some(Operator::Times),
-        b"/=" => Some(Operator::Over),
-        b"%=" => Some(Operator::Remainder),
-        _ => None,
     }
 }
