@@ -1,6 +1,6 @@
 #!/usr/bin/env python3
 """Measures what several workers at one tenant of arena-host take for its jobs, as times of what one takes: a job of short tasks,
-submitted, and executed beside a worker; a job of four long tasks; and several long jobs.
+submitted, and executed beside a worker; a job of tasks of 300 instructions; one of four long tasks; and several long jobs.
 
 usage: benches/host/workers.py [ROUNDS [HOST]], at the top of the repository. Each row is the median of ROUNDS, nine if none are
 said, and the two hosts of a row are asked in turn. It needs out/arena-host of `make build` if no program is said.
@@ -23,8 +23,13 @@ PROGRAM = os.path.abspath(sys.argv[2] if len(sys.argv) > 2 else "out/arena-host"
 FIB = [[["set", 2, 2], ["lt", 3, 0, 2], ["jz", 3, 4], ["ret", 0], ["set", 2, 1], ["sub", 3, 0, 2], ["spawn", 0, 0, 3, 1],
         ["sub", 3, 3, 2], ["spawn", 0, 0, 3, 1], ["wait", 4, 5, 0], ["ret", 4]]]
 COUNTED = [["set", 2, 1], ["jz", 0, 4], ["sub", 0, 0, 2], ["jmp", 1], ["ret", 0]]
+# Fibonacci's tree, whose leaves count 100 turns of three instructions before they end.
+LEAVES = [[["set", 2, 2], ["lt", 3, 0, 2], ["jz", 3, 9], ["set", 4, 100], ["set", 5, 1], ["jz", 4, 8], ["sub", 4, 4, 5], ["jmp", 5],
+           ["ret", 0], ["set", 2, 1], ["sub", 3, 0, 2], ["spawn", 0, 0, 3, 1], ["sub", 3, 3, 2], ["spawn", 0, 0, 3, 1],
+           ["wait", 4, 5, 0], ["ret", 4]]]
 FOUR_TASKS = [[["set", 2, 80_000], *[["spawn", 0, 1, 2, 2]] * 4, ["wait", 3, 4, 0], ["ret", 3]], COUNTED]
 SHORT = {"args": [20, 0], "fuel": 1_000_000, "procs": FIB}  # 76,616 entries
+FEW = {"args": [16, 0], "fuel": 1_000_000, "procs": LEAVES}  # 1,597 leaves of 300 instructions, 11,177 entries
 TASKS = {"args": [0, 0], "fuel": 1_000_000, "procs": FOUR_TASKS}  # 240,003 instructions each
 LONG = {"args": [250_000, 0], "fuel": 1_000_000, "procs": [COUNTED]}  # 750,003 instructions
 JOBS = 20
@@ -104,6 +109,7 @@ def main() -> None:
     print("| What | Beside | ms | The other's, ms | Ratio |\n|---|---|---|---|---|")
     for workers in (2, 4):
         row(f"FIB(20), submitted, {workers} workers", "one", ((workers, 0), (1, 0)), lambda it: it.submitted(SHORT))
+    row("FIB(16) with leaves of 300 instructions, submitted, 4 workers", "one", ((4, 0), (1, 0)), lambda it: it.submitted(FEW))
     row("FIB(20), executed, beside a worker", "without one", ((1, 1), (0, 1)), lambda it: it.executed(SHORT))
     for workers in (2, 4):
         row(f"a job of four tasks of 240,003 instructions, {workers} workers", "one", ((workers, 0), (1, 0)), lambda it: it.submitted(TASKS))
