@@ -1,6 +1,6 @@
 #!/usr/bin/env python3
 """Measures small jobs over 64 connections, each of a tenant of its own: by the server, by one host, and by two and four hosts
-side by side on this machine that share the tenants and connections.
+side by side on this machine that share the tenants and connections; and by one host with one worker, of 64 tenants and of one.
 
 usage: benches/host/many.py [SECONDS [ROUNDS [SERVER HOST]]], at the top of the repository. Each measure takes SECONDS, three if
 none are said, and there are ROUNDS of each, three if none are said. It needs `cc`, and out/arena-server and out/arena-host of
@@ -28,6 +28,7 @@ WORKERS = 4
 EXECUTE = json.dumps({"op": "execute", "job": {"args": [7, 0], "fuel": 10, "procs": [[["ret", 0]]]}}, separators=(",", ":"))
 SUBMIT = EXECUTE.replace("execute", "submit")
 COLLECT = '{"job":@,"op":"collect"}'
+TAKE = COLLECT.replace("}", ',"release":true}')
 
 
 def path_of(program: str) -> str:
@@ -41,6 +42,7 @@ class Running:
 
     program: str
     names: list[str]
+    workers: int = WORKERS
 
     def __enter__(self) -> "Running":
         self.folder = tempfile.TemporaryDirectory()
@@ -48,7 +50,7 @@ class Running:
         self.socket = there / "socket"
         steps = 1_048_576 if len(self.names) == 1 else 262_144  # one connection alone is fast
         tenants = [{"name": it, "priority": "normal", "reserved": 1, "rows": 200, "slots": 2, "steps": steps} for it in self.names]
-        (there / "config.json").write_text(json.dumps({"tenants": tenants, "workers": WORKERS}))
+        (there / "config.json").write_text(json.dumps({"tenants": tenants, "workers": self.workers}))
         where = ["--run", there, "--rotate-at", 100] if self.program == "arena-host" else ["--socket", self.socket]
         command = [path_of(self.program), "--config", there / "config.json", *where, "--connections", CONNECTIONS]
         self.process = subprocess.Popen([str(it) for it in command], stdout=subprocess.PIPE, stderr=subprocess.DEVNULL, text=True)
@@ -74,6 +76,14 @@ def rate(clients: pathlib.Path, places: list[tuple[Running, str]], lines: tuple[
 
 
 @contextlib.contextmanager
+def of_one_worker(tenants: int) -> Iterator[list[tuple[Running, str]]]:
+    """All connections, of so many tenants in turn, at a host with one worker."""
+    names = [f"tenant-{n}" for n in range(tenants)]
+    with Running("arena-host", names, workers=1) as running:
+        yield [(running, names[n % tenants]) for n in range(CONNECTIONS)]
+
+
+@contextlib.contextmanager
 def places(program: str, count: int, connections: int = CONNECTIONS) -> Iterator[list[tuple[Running, str]]]:
     """So many connections, spread over so many servers or hosts."""
     names = [f"tenant-{n}" for n in range(connections)]
@@ -89,6 +99,11 @@ def measures(clients: pathlib.Path) -> dict[str, Callable[[], float]]:
             with places(program, count, connections) as found:
                 return rate(clients, found, lines)
         return measured
+    def by_one_worker(tenants: int) -> Callable[[], float]:
+        def measured() -> float:
+            with of_one_worker(tenants) as found:
+                return rate(clients, found, (SUBMIT, TAKE))
+        return measured
     rows = {
         "executed, 1 connection, a host": ("arena-host", 1, 1, EXECUTE),
         "executed, 64 connections, a host": ("arena-host", 1, CONNECTIONS, EXECUTE),
@@ -100,7 +115,9 @@ def measures(clients: pathlib.Path) -> dict[str, Callable[[], float]]:
         "submitted, 64 connections, the server": ("arena-server", 1, CONNECTIONS, SUBMIT, COLLECT),
         "submitted, 64 connections, four hosts": ("arena-host", 4, CONNECTIONS, SUBMIT, COLLECT),
     }
-    return {name: by(*words) for name, words in rows.items() if os.path.exists(path_of(words[0]))}
+    shared = {f"submitted, 64 connections of {tenants}, a host of one worker": by_one_worker(count)
+              for count, tenants in ((1, "one tenant"), (CONNECTIONS, "a tenant each")) if os.path.exists(path_of("arena-host"))}
+    return {name: by(*words) for name, words in rows.items() if os.path.exists(path_of(words[0]))} | shared
 
 
 def report(rounds: list[dict[str, float]]) -> None:

@@ -4,8 +4,8 @@
    Each connection has a thread. It sends the line HELLO once, and then REQUEST again and again, and waits for its
    reply; if REQUEST has several lines, it sends them together, and waits for as many replies. With FOLLOW, a turn goes
    on with that line, in which the job's number of the first reply stands for `@`. After each 200 turns it asks,
-   unmeasured, that the jobs be retired, if REQUEST brings a job. It prints how many turns were taken, how many a second
-   while turns were taken, and the 50th and 99th of 100 turns in microseconds. */
+   unmeasured, that the jobs be retired, if REQUEST brings a job and FOLLOW does not release it. It prints how many turns were
+   taken, how many a second while turns were taken, and the 50th and 99th of 100 turns in microseconds. */
 #include <pthread.h>
 #include <stdio.h>
 #include <stdlib.h>
@@ -81,7 +81,7 @@ static void *run(void *given) {
     static const char retire[] = "{\"op\":\"retire\"}\n";
     char hello[LINE], request[LINE];
     size_t hello_length = ended(hello, said[4]), length = ended(request, said[5]);
-    int brings_job = strstr(request, "procs") != NULL;
+    int leaves_job = strstr(request, "procs") && !(said[6] && strstr(said[6], "\"release\":true"));
     ask(client, hello, hello_length);
     while (client->turns < MOST && now() < end_at) {
         double begun = now();
@@ -89,7 +89,7 @@ static void *run(void *given) {
         if (said[6])
             follow(client, said[6]);
         client->nanoseconds[client->turns++] = (unsigned)(1e9 * (now() - begun));
-        if (brings_job && client->turns % BATCH == 0)
+        if (leaves_job && client->turns % BATCH == 0)
             ask(client, retire, sizeof retire - 1);
     }
     close(client->socket);
