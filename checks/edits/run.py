@@ -1,5 +1,5 @@
 #!/usr/bin/env python3
-"""Plants the wrong bodies of each crate's page must-fail/calls.md, all of a crate at once, and has the prover check the
+"""Plants the wrong bodies of each crate's page must-fail/calls.md, many at once, and has the prover check the
 functions that they are in: it must refuse each of them, for a goal of its own. What they call is not proved once more: it
 loses its body, and is taken by its contract. One that calls another of them, and of which only that is said, is tried again
 without the other.
@@ -25,15 +25,18 @@ from prover import ask, build_libraries, read_crates
 from recorded import wrong_readings
 
 PAGE = "must-fail/calls.md"
+AT_ONCE = 24
+"""How many wrong bodies one check tries at most: with more of them the dearest page takes as long as a check may."""
 # what is wrong with a crate's wrong bodies, by what the prover says of them
 Judge = Callable[[dict[str, list[str]], str, list[WrongBody], str], list[str]]
 
 
 def planted(bodies: list[WrongBody], crate: pathlib.Path) -> tuple[dict[str, str], list[WrongBody]]:
-    """Returns the texts with as many of these bodies as can stand side by side, at most one in each function, and these."""
+    """Returns the texts with as many of these bodies as can stand side by side, at most one in each function, and these; no more
+    than one check tries."""
     texts, inside = {}, {}
     for body in bodies:
-        if body.function not in inside:
+        if body.function not in inside and len(inside) < AT_ONCE:
             body.plant(texts, crate)
             inside[body.function] = body
     return texts, [*inside.values()]
