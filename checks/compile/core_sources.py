@@ -20,6 +20,15 @@ class Called:
     parameters: int
 
 
+@dataclass(frozen=True)
+class Inline:
+    """An inline function, and whether it divides."""
+
+    name: str
+    parameters: int
+    divides: bool
+
+
 @dataclass
 class Sources:
     """Draws sources."""
@@ -36,13 +45,15 @@ class Sources:
     outer_groups: list[str] = field(default_factory=list)
     """The groups of the innermost block that were not waited for, and those of the blocks around it."""
     cells: list[str] = field(default_factory=list)
+    inlines: list[Inline] = field(default_factory=list)
     may_divide: bool = True
 
     def source(self) -> str:
-        """A source with a main of two parameters, behind constants and cells, and functions below it. Each calls only later ones,
-        and only main uses cells, so no schedule decides what they give."""
-        self.constants = []
+        """A source with a main of two parameters, behind constants, cells and inline functions, and functions below it. Each calls
+        only later ones, and only main uses cells, so no schedule decides what they give."""
+        self.constants, self.inlines = [], []
         items = "".join(self.constant() for _ in range(self.draws.choice((0, 0, 1, 2)))) + self.items_of_cells()
+        items += "".join(self.inline() for _ in range(self.draws.choice((0, 0, 1, 2, 3))))
         below = [Called(f"f{number}", self.draws.randint(0, 2)) for number in range(self.draws.choice((0, 1, 1, 2)))]
         functions = self.function(Called("main", 2), below, MOST_DEPTH)
         self.cells = []
@@ -65,6 +76,25 @@ class Sources:
             value = f"{value} {self.draws.choice(('+', '*', '<=', '!=', *BITS))} {self.number()}"
         self.constants.append(f"C{len(self.constants)}")
         return f"{self.draws.choice(('const', 'param'))} {self.constants[-1]} = {value}\n"
+
+    def inline(self) -> str:
+        """An inline function, which may use those above."""
+        inline = Inline(f"e{len(self.inlines)}", self.draws.randint(0, 3), self.draws.random() < 0.4)
+        self.names, self.may_divide = ["x", "y", "z"][:inline.parameters], inline.divides
+        value = self.value(2) if inline.divides or self.draws.random() < 0.5 else self.condition(2)
+        self.may_divide = True
+        self.inlines.append(inline)
+        return f"inline fn {inline.name}({', '.join(self.names)}) = {value}\n"
+
+    def insertion(self) -> str:
+        """A use of an inline function, if one fits here."""
+        fitting = [it for it in self.inlines if self.may_divide or not it.divides]
+        if not fitting or self.draws.random() < 0.75:
+            return ""
+        inline, before, self.may_divide = self.draws.choice(fitting), self.may_divide, False
+        given = ", ".join(self.value(1) for _ in range(inline.parameters))
+        self.may_divide = before
+        return f"{inline.name}({given})"
 
     def items_of_cells(self) -> str:
         """The items of a few cells, some of which choose their keys."""
@@ -224,6 +254,8 @@ class Sources:
 
     def value(self, depth: int) -> str:
         """A number."""
+        if depth and (inserted := self.insertion()):
+            return inserted
         if not depth or self.draws.random() < 0.3:
             known = [*self.names, *self.constants]
             return self.draws.choice((*([self.draws.choice(known)] if known else []), self.number()))
@@ -247,6 +279,8 @@ class Sources:
 
     def condition(self, depth: int) -> str:
         """A condition."""
+        if depth and (inserted := self.insertion()):
+            return inserted
         kind = self.draws.choice(("compare", "compare", "both", "either", "not", "number")) if depth else "compare"
         if kind == "compare":
             return f"{self.value(1)} {self.draws.choice(COMPARISONS)} {self.value(1)}"

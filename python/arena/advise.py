@@ -9,7 +9,7 @@ from typing import Any
 from arena.lint import GREATEST_SLOTS, GREATEST_STEPS, WORKERS
 from arena.texts import counted
 
-ENTRY_BYTES, SLOT_BYTES, CONNECTION_BYTES = 128, 16, 120
+ENTRY_BYTES, SLOT_BYTES, CONNECTION_BYTES = 104, 16, 96
 """What a server reserves for each of a tenant's `steps`, in bytes: for the entry, each slot and each connection."""
 
 TERMS_AT_ONCE = 2

@@ -55,29 +55,29 @@ impl CompileFault {
 fn words_of(wrong: Wrong) -> &'static str {
     match wrong {
         Wrong::Unexpected => "this is not expected here, or is not taken by arena-compile",
-        Wrong::UnknownName => "no variable, constant or cell of this name is known here",
-        Wrong::KnownName => "a variable, a constant or a cell of this name is there already",
+        Wrong::UnknownName => "nothing of this name is known here",
+        Wrong::KnownName => "something else has this name already",
         Wrong::TooManyNames => "a function has at most 240 variables",
         Wrong::NotAssigned =>
             "only variables and cells are assigned to, and not the index of a `for`",
         Wrong::NoConstant => "the value of a constant is made of numbers and of constants above it",
         Wrong::NoStep => "the step of a `for` is a constant that is not 0",
-        Wrong::LateItem => "constants and cells stand above all functions",
-        Wrong::TooManyItems => "a source has at most 100 constants and cells",
+        Wrong::LateItem => "constants and cells stand first, then inline functions, then others",
+        Wrong::TooManyItems => "at most 100 of these are taken",
         Wrong::WrongKey => "the key of a cell is a number from 0 to 7",
         Wrong::KnownKey => "another cell has this key",
         Wrong::TooManyCells => "no key is left for this cell: there are 8",
-        Wrong::CellValue =>
-            "a cell is read alone: write `let x = c.local` before this, or c.sum or c.count",
+        Wrong::CellValue => "a cell is read alone: write `let x = c.local` before this",
         Wrong::SkippedDivision =>
             "`&&` or `||` may skip a division here: write `let x = ..` with it before this",
+        Wrong::GivenDivision => "write `let x = ..` with this division before the line",
         Wrong::TooLong => "what begins here is too long, or nested too deep",
         Wrong::NeverReached => "this is never reached: leave it out",
         Wrong::NoLoop => "there is no loop around this",
         Wrong::KnownFunction =>
             "a function of this name is there already, or `main` is not the first one",
         Wrong::UnknownFunction => "no function of this name is there",
-        Wrong::ArgumentCount => "a function is called with as many arguments as it has parameters",
+        Wrong::ArgumentCount => "a function gets as many arguments as it has parameters",
         Wrong::NotWaited =>
             "this is a task or a group that was not waited for: write `wait` before its value is read",
         Wrong::WaitSkipped =>

@@ -47,9 +47,11 @@ both_fit op None ob fx fy = tt
 both_fit op (Some x) None fx fy = tt
 both_fit op (Some x) (Some y) fx fy = result_fits op x y fx fy
 
-pub value_fits : (e : Expr) (n slot width : ℕ) (vars : List ℤ) → slot < 2 ^ 8 → width < 2 ^ 8 → IsWithin n e → ((x : ℕ) → FitsSigned w64 (get_or vars x (pos 0))) → FitsIf (value_of e slot width vars)
+pub value_fits : (e : Expr) (n slot width : ℕ) (vars : List ℤ) → slot < 2 ^ 8 → width < 2 ^ 8 → IsWithin n e →
+    ((x : ℕ) → FitsSigned w64 (get_or vars x (pos 0))) → FitsIf (value_of e slot width vars)
 value_fits (Number z) n slot width vars ls lw h fit = h
 value_fits (Variable x) n slot width vars ls lw h fit = fit x
 value_fits Slot n slot width vars ls lw h fit = small_fits slot (omega (arith, ls))
 value_fits Width n slot width vars ls lw h fit = small_fits width (omega (arith, lw))
-value_fits (Two' op p a q b) n slot width vars ls lw h fit = both_fit op (value_of a slot width vars) (value_of b slot width vars) (value_fits a n slot width vars ls lw h.0 fit) (value_fits b n slot width vars ls lw h.1 fit)
+value_fits (Two' op p a q b) n slot width vars ls lw h fit =
+    both_fit op (value_of a slot width vars) (value_of b slot width vars) (value_fits a n slot width vars ls lw h.0 fit) (value_fits b n slot width vars ls lw h.1 fit)

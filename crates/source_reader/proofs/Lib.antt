@@ -2,3 +2,4 @@ pub mod ValueSteps
 pub mod StmtSteps
 pub mod FunctionSteps
 pub mod ItemSteps
+pub mod ParameterSteps

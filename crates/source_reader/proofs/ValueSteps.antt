@@ -1,5 +1,5 @@
 -- One step of reading a value.
-use Rattle.std.proofs.Common.{◌≡◌, ℕ, zero, suc, ◌+◌, ◌-◌, ◌<◌, ◌≤◌, List, drop, Some, Result, Ok, Err, refl, ap, ◌∙◌, arith}
+use Rattle.std.proofs.Common.{◌≡◌, ℕ, zero, suc, ◌+◌, ◌-◌, ◌<◌, ◌≤◌, List, [], ◌∷◌, ◌++◌, drop, Some, Result, Ok, Err, refl, ap, ◌∙◌, arith}
 use Rattle.std.proofs.lemmas.Bool.{lt-ltb, le-ltb}
 use Rattle.source_tokens.specs.declared.tokens.Sign.{Sign}
 use Rattle.source_tokens.specs.declared.tokens.Token.{Token}
@@ -9,9 +9,10 @@ use Rattle.source_reader.specs.declared.faults.ReadError.TheVariants as errors
 use Rattle.source_reader.specs.declared.faults.Wrong.TheVariants as wrong
 use Rattle.source_reader.specs.Names.{Scope}
 use Rattle.source_reader.specs.Faults.{fault_at, ◌>>=◌, Fails}
-use Rattle.source_reader.specs.Trees.{ValueTree}
+use Rattle.source_reader.specs.Trees.{ExprTree, ValueTree, InlineTree}
+use Rattle.source_reader.specs.Inlines.{given_in}
 use Rattle.source_reader.specs.Joining.{joined}
-use Rattle.source_reader.specs.Values.{Wanted, Level, More, Single, sign_at, more, step, value_at}
+use Rattle.source_reader.specs.Values.{Wanted, Level, More, Single, Argument, sign_at, more, behind_argument, step, value_at}
 
 pub value_none : (n : ℕ) (names : Scope) (w : Wanted) (ts : List Token) → n ≡ 0 → value_at n names w ts ≡ Err (fault_at ts wrong.TooLong)
 unfolding value_at
@@ -37,6 +38,11 @@ level_more n names l ts a rest h lt e = value_some n names (Level l) ts h ∙ rw
 pub more_on : (n : ℕ) (names : Scope) (l : ℕ) (left : ValueTree) (ts : List Token) (s : Sign) (right : ValueTree) (rest : List Token) (both : ValueTree) → 0 < n → sign_at l ts ≡ Some s
     → value_at (n - 1) names (Level (l + 1)) (drop 1 ts) ≡ Ok (right, rest) → joined s left right ts ≡ Ok both → value_at n names (More l left) ts ≡ value_at (n - 1) names (More l both) rest
 more_on n names l left ts s right rest both h es er eb = value_some n names (More l left) ts h ∙ rw (es, er, eb) refl
+
+pub argument_on : (n : ℕ) (names : Scope) (f : InlineTree) (before : List ExprTree) (called ts : List Token) (v : ValueTree) (rest : List Token) (e : ExprTree) → 0 < n
+    → value_at (n - 1) names (Level 0) ts ≡ Ok (v, rest) → given_in v ts ≡ Ok e
+    → value_at n names (Argument f before called) ts ≡ behind_argument (value_at (n - 1) names) f (before ++ e ∷ []) called rest
+argument_on n names f before called ts v rest e h ev ee = value_some n names (Argument f before called) ts h ∙ rw (ev, ee) refl
 
 -- What follows a fault does not matter.
 pub fails_then : {A B : Type 0} (e : ReadError) (r : Result A Fault) (f : A → Result B Fault) → Fails e r → Fails e (r >>= f)

@@ -17,11 +17,11 @@ use Rattle.source_reader.specs.declared.headers.Title.TheVariants as title
 use Rattle.source_reader.specs.Faults.{◌>>=◌, fault_at}
 use Rattle.source_reader.specs.Headers.{title_at, callee_in}
 use Rattle.source_reader.specs.Joining.{number_in}
-use Rattle.source_reader.specs.Lines.{is_close}
 use Rattle.source_reader.specs.Names.{Scope, functions_in}
 use Rattle.source_reader.specs.Tasks.{group_number, free_group}
 use Rattle.source_reader.specs.Trees.{tree_of, ExprTree, StmtTree, Constant, ThenTree, MakeTree, WaitTree}
-use Rattle.source_reader.specs.Values.{unexpected, after_open, whole_value}
+use Rattle.source_reader.specs.Values.{whole_value}
+use Rattle.source_reader.specs.Marks.{unexpected, after_open, is_close, wrong_count, after_last, before_next}
 
 abbrev pub found : Option Callee → List Token → Result Callee Fault
 found None ts = Err (fault_at ts wrong.UnknownFunction)
@@ -42,30 +42,6 @@ argument_at names ts = do
   v ← whole_value names ts
   e ← number_in v.0 ts
   Ok (e, v.1)
-
--- A function has as many arguments as parameters. Otherwise the fault is at its name, which is the first of the tokens `called`.
-abbrev pub wrong_count : {A : Type 0} → (called : List Token) → Result A Fault
-wrong_count called = Err (fault_at called wrong.ArgumentCount)
-
-abbrev pub after_last_of : Kind → (called rest ts : List Token) → Result (List Token) Fault
-after_last_of kind.Close called rest ts = Ok rest
-after_last_of kind.Comma called rest ts = wrong_count called
-after_last_of k called rest ts = unexpected ts
-
--- behind the last argument
-abbrev pub after_last : (called ts : List Token) → Result (List Token) Fault
-after_last called [] = unexpected []
-after_last called (t ∷ ts) = after_last_of t.kind called ts (t ∷ ts)
-
-abbrev pub before_next_of : Kind → (called rest ts : List Token) → Result (List Token) Fault
-before_next_of kind.Comma called rest ts = Ok rest
-before_next_of kind.Close called rest ts = wrong_count called
-before_next_of k called rest ts = unexpected ts
-
--- behind an argument, where another one is wanted
-abbrev pub before_next : (called ts : List Token) → Result (List Token) Fault
-before_next called [] = unexpected []
-before_next called (t ∷ ts) = before_next_of t.kind called ts (t ∷ ts)
 
 -- the two numbers that a task gets
 pub record ArgumentTrees : Type 0 where

@@ -12,7 +12,8 @@ use Rattle.source_reader.specs.Faults.{◌>>=◌}
 use Rattle.source_reader.specs.Joining.{operation}
 use Rattle.source_reader.specs.Names.{Scope, new_number}
 use Rattle.source_reader.specs.Trees.{ValueTree, StmtTree, Constant, Variable, NumberTree, TruthTree, ThenTree, IfTree, ReadTree, StoreTree}
-use Rattle.source_reader.specs.Values.{unexpected, whole_value}
+use Rattle.source_reader.specs.Values.{whole_value}
+use Rattle.source_reader.specs.Marks.{unexpected}
 
 abbrev pub question_of : Part → (key : ℕ) → Question
 question_of part.Local k = question.Cell k

@@ -13,12 +13,12 @@ use Rattle.source_reader.specs.declared.functions.TheConstants.{BODY_FUEL}
 use Rattle.source_reader.specs.Faults.{◌>>=◌, fault_at}
 use Rattle.source_reader.specs.Trees.{StmtTree, FunctionTree, function_tree_of, SkipTree, ThenTree, AssignTree, IfTree, LoopTree, RepeatTree, BreakTree, ContinueTree, ReturnTree, MakeTree, WaitTree}
 use Rattle.source_reader.specs.Trees.{CancelTree, ReadTree, StoreTree}
-use Rattle.source_reader.specs.Values.{unexpected, after_open, after_close}
 use Rattle.source_reader.specs.declared.names.Meaning.TheVariants as meaning
 use Rattle.source_reader.specs.Names.{Scope, WithName, number_after}
-use Rattle.source_reader.specs.Lines.{after_comma, is_close, after_line_ends, free_name, item_ended}
+use Rattle.source_reader.specs.Lines.{after_comma, after_line_ends, free_name, item_ended}
 use Rattle.source_reader.specs.Simple.{ReadStmt}
 use Rattle.source_reader.specs.Statements.{Block, stmt_at}
+use Rattle.source_reader.specs.Marks.{unexpected, after_open, after_close, is_close}
 
 abbrev pub larger : ℕ → ℕ → ℕ
 larger a b = if nat_lt a b then b else a
@@ -50,11 +50,12 @@ variables_of (CancelTree g) = 0
 variables_of (ReadTree d q) = number_after d
 variables_of (StoreTree k e) = 0
 
--- No constant and no cell stands below a function.
+-- No constant, no cell and no inline function stands below a function.
 abbrev pub after_fn_of : Kind → List Token → List Token → Result (List Token) Fault
 after_fn_of kind.Fn rest ts = Ok rest
 after_fn_of kind.Const rest ts = Err (fault_at ts wrong.LateItem)
 after_fn_of kind.Cell rest ts = Err (fault_at ts wrong.LateItem)
+after_fn_of kind.Inline rest ts = Err (fault_at ts wrong.LateItem)
 after_fn_of k rest ts = unexpected ts
 
 abbrev pub after_fn : List Token → Result (List Token) Fault

@@ -18,7 +18,7 @@ use Rattle.source_reader.specs.Names.{Scope, meaning_of}
 use Rattle.source_reader.specs.Groups.{own_group_at}
 use Rattle.source_reader.specs.Tasks.{group_number}
 use Rattle.source_reader.specs.Trees.{StmtTree, ReadTree, WaitTree}
-use Rattle.source_reader.specs.Values.{after_open, after_close}
+use Rattle.source_reader.specs.Marks.{after_open, after_close}
 
 abbrev pub part_of : (key : ℕ) → Kind → Option Giver
 part_of k (kind.Part p) = Some (giver.Cell (question_of p k))

@@ -14,9 +14,9 @@ use Rattle.source_reader.specs.Faults.{◌>>=◌, fault_at}
 use Rattle.source_reader.specs.Names.{Scope, meaning_of}
 use Rattle.source_reader.specs.Tasks.{group_number, free_group}
 use Rattle.source_reader.specs.Trees.{StmtTree, SkipTree, CancelTree}
-use Rattle.source_reader.specs.Values.{unexpected}
 use Rattle.source_reader.specs.Lines.{free_name}
 use Rattle.source_reader.specs.Calls.{run_at}
+use Rattle.source_reader.specs.Marks.{unexpected}
 
 abbrev pub if_group : Task → Option TaskGroup
 if_group t = if t.is_group then Some t.group else None

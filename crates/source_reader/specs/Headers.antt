@@ -1,5 +1,5 @@
 -- The functions that tokens declare, in order.
-use Rattle.std.specs.Prelude.{ℕ, ◌==◌, Bool, true, false, List, [], ◌∷◌, drop, Option, Some, None, if◌then◌else◌}
+use Rattle.std.specs.Prelude.{ℕ, ◌==◌, ◌&&◌, not, Bool, true, false, List, [], ◌∷◌, drop, Option, Some, None, if◌then◌else◌}
 use Rattle.source_tokens.specs.declared.tokens.Kind.{Kind}
 use Rattle.source_tokens.specs.declared.tokens.Kind.TheVariants as kind
 use Rattle.source_tokens.specs.declared.tokens.Token.{Token}
@@ -7,12 +7,20 @@ use Rattle.source_reader.specs.declared.headers.Title.{Title}
 use Rattle.source_reader.specs.declared.headers.Title.TheVariants as title
 use Rattle.source_reader.specs.declared.headers.Header.{Header}
 use Rattle.source_reader.specs.declared.headers.Callee.{Callee}
-use Rattle.source_reader.specs.Lines.{is_close}
 use Rattle.source_reader.specs.Names.{number_after}
+use Rattle.source_reader.specs.Marks.{is_close}
 
 abbrev pub is_fn : Kind → Bool
 is_fn kind.Fn = true
 is_fn k = false
+
+abbrev pub is_inline : Kind → Bool
+is_inline kind.Inline = true
+is_inline k = false
+
+-- whether a function begins with this token, and not an inline one, for which there is `inline` before `fn`
+abbrev pub begins : (behind_inline : Bool) → Kind → Bool
+begins behind_inline k = is_fn k && not behind_inline
 
 abbrev pub title_of : Kind → Title
 title_of kind.Main = title.Main
@@ -31,9 +39,12 @@ parameters_in ts = if is_close ts then 0 else (if is_close (drop 1 ts) then 1 el
 abbrev pub header_of : List Token → Header
 header_of ts = record { title = title_at ts; parameters = parameters_in (drop 1 (drop 1 ts)) }
 
+abbrev pub headers_behind : (behind_inline : Bool) → List Token → List Header
+headers_behind b [] = []
+headers_behind b (t ∷ ts) = if begins b t.kind then header_of ts ∷ headers_behind (is_inline t.kind) ts else headers_behind (is_inline t.kind) ts
+
 abbrev pub headers_of : List Token → List Header
-headers_of [] = []
-headers_of (t ∷ ts) = if is_fn t.kind then header_of ts ∷ headers_of ts else headers_of ts
+headers_of ts = headers_behind false ts
 
 abbrev pub is_same : Title → Title → Bool
 is_same title.Main title.Main = true

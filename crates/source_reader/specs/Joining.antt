@@ -3,7 +3,8 @@ use Rattle.std.specs.Prelude.{â„•, pos, negsuc, true, List, Result, Ok, Err, ifâ
 use Rattle.source_language.specs.declared.syntax.Operator.{Operator}
 use Rattle.source_language.specs.declared.syntax.Operator.TheVariants as op
 use Rattle.source_tokens.specs.declared.tokens.Sign.{Sign}
-use Rattle.source_tokens.specs.declared.tokens.Sign.TheVariants.{Or, And, Equal, Unequal, Below, AtMost, Above, AtLeast, Plus, Minus, Times, Over, Remainder, BitAnd, BitOr, BitXor, ShiftLeft, ShiftRight}
+use Rattle.source_tokens.specs.declared.tokens.Sign.TheVariants.{Or, And, Equal, Unequal, Below, AtMost, Above, AtLeast, Plus, Minus, Times}
+use Rattle.source_tokens.specs.declared.tokens.Sign.TheVariants.{Over, Remainder, BitAnd, BitOr, BitXor, ShiftLeft, ShiftRight}
 use Rattle.source_tokens.specs.declared.tokens.Token.{Token}
 use Rattle.source_reader.specs.declared.faults.Fault.{Fault}
 use Rattle.source_reader.specs.declared.faults.Wrong.TheVariants as wrong

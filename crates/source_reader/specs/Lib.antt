@@ -1,4 +1,5 @@
 pub mod Faults
+pub mod Marks
 pub mod Trees
 pub mod Names
 pub mod Tasks
@@ -6,9 +7,11 @@ pub mod Waits
 pub mod Folding
 pub mod Truths
 pub mod Joining
+pub mod Inlines
 pub mod Values
 pub mod Constants
 pub mod Lines
+pub mod Parameters
 pub mod Headers
 pub mod Calls
 pub mod Groups

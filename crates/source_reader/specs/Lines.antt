@@ -10,7 +10,7 @@ use Rattle.source_reader.specs.declared.faults.Wrong.TheVariants as wrong
 use Rattle.source_reader.specs.declared.names.Meaning.{Meaning}
 use Rattle.source_reader.specs.Faults.{◌>>=◌, fault_at}
 use Rattle.source_reader.specs.Names.{Scope, meaning_of}
-use Rattle.source_reader.specs.Values.{unexpected}
+use Rattle.source_reader.specs.Marks.{unexpected}
 
 -- A comparison is 1 or 0.
 abbrev pub assigned : ℕ → ValueTree → StmtTree
@@ -77,14 +77,6 @@ after_comma_of k rest ts = unexpected ts
 abbrev pub after_comma : List Token → Result (List Token) Fault
 after_comma [] = unexpected []
 after_comma (t ∷ ts) = after_comma_of t.kind ts (t ∷ ts)
-
-abbrev pub is_close_of : Kind → Bool
-is_close_of kind.Close = true
-is_close_of k = false
-
-abbrev pub is_close : List Token → Bool
-is_close [] = false
-is_close (t ∷ ts) = is_close_of t.kind
 
 abbrev pub name_at_of : Kind → List Token → Result ℕ Fault
 name_at_of (kind.Name x) ts = Ok x

@@ -13,17 +13,20 @@ use Rattle.source_reader.specs.declared.names.TaskGroup.TheVariants as task_grou
 use Rattle.source_reader.specs.declared.names.Names.{Names}
 use Rattle.source_reader.specs.declared.names.Names.TheVariants as names
 use Rattle.source_reader.specs.declared.headers.Header.{Header}
+use Rattle.source_reader.specs.Trees.{InlineTree, inline_tree_of}
 
 -- `Waited` stands behind a wait for the task of a group, and `Inner` is the beginning of a block inside the function's own.
 pub data Scope : Type 0 where
   Functions : List Header → Scope
   WithName : ℕ → Meaning → Scope → Scope
+  WithInline : ℕ → InlineTree → Scope → Scope
   Waited : TaskGroup → Scope → Scope
   Inner : (is_loop : Bool) → Scope → Scope
 
 abbrev pub names_of : Names → Scope
 names_of (names.Functions hs) = Functions hs.now
 names_of (names.Name' x m p others) = WithName x m (names_of others)
+names_of (names.Inline' x f p others) = WithInline x (inline_tree_of f.now) (names_of others)
 names_of (names.Waited' g p others) = Waited g (names_of others)
 names_of (names.Inner' is_loop p others) = Inner is_loop (names_of others)
 
@@ -50,13 +53,23 @@ outer m = m
 abbrev pub meaning_of : ℕ → Scope → Option Meaning
 meaning_of x (Functions hs) = None
 meaning_of x (WithName y m others) = if y == x then Some m else meaning_of x others
+meaning_of x (WithInline y f others) = if y == x then Some meaning.Inline else meaning_of x others
 meaning_of x (Waited g others) = option_map (awaited g) (meaning_of x others)
 meaning_of x (Inner is_loop others) = option_map outer (meaning_of x others)
+
+-- the inline function of that name
+abbrev pub inline_of : ℕ → Scope → Option InlineTree
+inline_of x (Functions hs) = None
+inline_of x (WithName y m others) = inline_of x others
+inline_of x (WithInline y f others) = if y == x then Some f else inline_of x others
+inline_of x (Waited g others) = inline_of x others
+inline_of x (Inner is_loop others) = inline_of x others
 
 -- the functions of the source, in its order
 abbrev pub functions_in : Scope → List Header
 functions_in (Functions hs) = hs
 functions_in (WithName x m others) = functions_in others
+functions_in (WithInline x f others) = functions_in others
 functions_in (Waited g others) = functions_in others
 functions_in (Inner is_loop others) = functions_in others
 
@@ -71,7 +84,7 @@ number_behind v ts = if nat_lt v 240 then Ok (v + 1) else Err (fault_at ts wrong
 abbrev pub number_past : Task → List Token → Result ℕ Fault
 number_past t ts = if t.is_group then Ok t.variable else number_behind t.variable ts
 
--- The end of a loop that counts is the variable behind its index. Before constants and cells there are no variables.
+-- The end of a loop that counts is the variable behind its index. Before constants, cells and inline functions there are no variables.
 abbrev pub number_next : Meaning → List Token → Result ℕ Fault
 number_next (meaning.Variable v) ts = number_behind v ts
 number_next (meaning.Counter v) ts = number_behind (number_after v) ts
@@ -81,10 +94,12 @@ number_next (meaning.Awaited v) ts = number_behind v ts
 number_next (meaning.Closed v) ts = Ok v
 number_next (meaning.OuterTask t) ts = number_past t ts
 number_next (meaning.Cell k) ts = Ok 0
+number_next meaning.Inline ts = Ok 0
 
 -- the number of one more variable
 abbrev pub new_number : Scope → List Token → Result ℕ Fault
 new_number (Functions hs) ts = Ok 0
 new_number (WithName x m others) ts = number_next m ts
+new_number (WithInline x f others) ts = Ok 0
 new_number (Waited g others) ts = new_number others ts
 new_number (Inner is_loop others) ts = new_number others ts

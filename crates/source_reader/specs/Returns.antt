@@ -7,12 +7,13 @@ use Rattle.source_reader.specs.Faults.{◌>>=◌}
 use Rattle.source_reader.specs.Trees.{ValueTree, StmtTree, Constant, Variable, ThenTree, ReturnTree}
 use Rattle.source_reader.specs.Names.{Scope, Waited, new_number}
 use Rattle.source_reader.specs.Tasks.{pending, leaving}
-use Rattle.source_reader.specs.Values.{unexpected, whole_value}
+use Rattle.source_reader.specs.Values.{whole_value}
 use Rattle.source_reader.specs.declared.givers.Giver.{Giver}
 use Rattle.source_reader.specs.declared.givers.Giver.TheVariants as giver
 use Rattle.source_reader.specs.Givers.{giver_at, given_by}
 use Rattle.source_reader.specs.Lines.{assigned, returned, is_line_end, is_end}
 use Rattle.source_reader.specs.Simple.{ReadStmt}
+use Rattle.source_reader.specs.Marks.{unexpected}
 
 -- A variable is returned: its value is there before the waits for tasks.
 abbrev pub variable_returned : Scope → ℕ → StmtTree

@@ -16,7 +16,7 @@ use Rattle.source_reader.specs.declared.names.TaskGroup.{TaskGroup}
 use Rattle.source_reader.specs.Tasks.{group_number, pending_task}
 use Rattle.source_reader.specs.Waits.{awaited_at}
 use Rattle.source_reader.specs.Joining.{test_in, operation, a_number}
-use Rattle.source_reader.specs.Values.{unexpected, whole_value}
+use Rattle.source_reader.specs.Values.{whole_value}
 use Rattle.source_reader.specs.Constants.{step_at}
 use Rattle.source_reader.specs.declared.calls.Run.TheVariants as run
 use Rattle.source_reader.specs.declared.givers.Giver.{Giver}
@@ -25,6 +25,7 @@ use Rattle.source_reader.specs.Groups.{own_group_at}
 use Rattle.source_reader.specs.Cells.{store_at}
 use Rattle.source_reader.specs.Givers.{giver_at, given_by}
 use Rattle.source_reader.specs.Lines.{assigned, after_set, after_in, after_range, free_name}
+use Rattle.source_reader.specs.Marks.{unexpected}
 
 abbrev pub condition_at : Scope → List Token → Result (TestTree × List Token) Fault
 condition_at names ts = do
@@ -95,6 +96,7 @@ assigned_to names (meaning.OuterTask t) ts rest = Err (fault_at ts wrong.NotWait
 assigned_to names (meaning.Counter v) ts rest = Err (fault_at ts wrong.NotAssigned)
 assigned_to names (meaning.Constant z) ts rest = Err (fault_at ts wrong.NotAssigned)
 assigned_to names (meaning.Cell k) ts rest = store_at names k rest
+assigned_to names meaning.Inline ts rest = Err (fault_at ts wrong.NotAssigned)
 
 abbrev pub assigned_at : Scope → Option Meaning → List Token → List Token → ReadStmt
 assigned_at names None ts rest = Err (fault_at ts wrong.UnknownName)

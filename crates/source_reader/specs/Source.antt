@@ -1,5 +1,5 @@
 -- What a text says.
-use Rattle.std.specs.Prelude.{◌≡◌, ◌==◌, ◌-◌, ℕ, List, [], ◌∷◌, length, map, Result, Ok, Err, if◌then◌else◌}
+use Rattle.std.specs.Prelude.{◌≡◌, ◌==◌, ◌-◌, ℕ, Bool, false, List, [], ◌∷◌, length, map, Result, Ok, Err, if◌then◌else◌}
 use Rattle.std.specs.Global.{Vec}
 use Rattle.source_language.specs.declared.syntax.Function.{Function}
 use Rattle.source_tokens.specs.declared.tokens.Token.{Token}
@@ -14,7 +14,7 @@ use Rattle.source_reader.specs.Faults.{◌>>=◌, fault_at}
 use Rattle.source_reader.specs.declared.items.TheConstants.{ITEMS}
 use Rattle.source_reader.specs.Trees.{FunctionTree, function_tree_of}
 use Rattle.source_reader.specs.Names.{Functions}
-use Rattle.source_reader.specs.Headers.{is_fn, headers_of}
+use Rattle.source_reader.specs.Headers.{begins, is_inline, headers_of}
 use Rattle.source_reader.specs.Items.{items_from}
 use Rattle.source_reader.specs.Places.{place_of, place_left}
 
@@ -42,9 +42,11 @@ GivesSource text (Ok v) = Says text (map function_tree_of v.items)
 GivesSource text (Err e) = GivesError text e
 
 -- where the function of that number begins, or else the end
-abbrev pub nth_fn : List Token → (number end : ℕ) → ℕ
-nth_fn [] n end = end
-nth_fn (t ∷ ts) n end = if is_fn t.kind then (if n == 0 then t.at else nth_fn ts (n - 1) end) else nth_fn ts n end
+abbrev pub nth_fn : (behind_inline : Bool) → List Token → (number end : ℕ) → ℕ
+nth_fn b [] n end = end
+nth_fn b (t ∷ ts) n end =
+    if begins b t.kind then (if n == 0 then t.at else nth_fn (is_inline t.kind) ts (n - 1) end)
+    else nth_fn (is_inline t.kind) ts n end
 
 abbrev pub function_place : List ℕ → (number : ℕ) → Place
-function_place text n = place_of text (nth_fn (tokens_of text) n (length text))
+function_place text n = place_of text (nth_fn false (tokens_of text) n (length text))

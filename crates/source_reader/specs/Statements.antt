@@ -8,7 +8,8 @@ use Rattle.source_tokens.specs.declared.tokens.Token.{Token}
 use Rattle.source_reader.specs.declared.faults.Fault.{Fault}
 use Rattle.source_reader.specs.declared.faults.Wrong.TheVariants as wrong
 use Rattle.source_reader.specs.Faults.{◌>>=◌, fault_at}
-use Rattle.source_reader.specs.Trees.{ExprTree, TestTree, ValueTree, StmtTree, Constant, Variable, TwoTree, HoldsTree, NotTree, EitherTree, SkipTree, ThenTree, AssignTree, IfTree, LoopTree, BreakTree, ContinueTree}
+use Rattle.source_reader.specs.Trees.{ExprTree, TestTree, ValueTree, StmtTree}
+use Rattle.source_reader.specs.Trees.{Constant, Variable, TwoTree, HoldsTree, NotTree, EitherTree, SkipTree, ThenTree, AssignTree, IfTree, LoopTree, BreakTree, ContinueTree}
 use Rattle.source_reader.specs.declared.names.Meaning.{Meaning}
 use Rattle.source_reader.specs.declared.names.Meaning.TheVariants as meaning
 use Rattle.source_reader.specs.declared.names.Task.{Task}
@@ -17,13 +18,13 @@ use Rattle.source_reader.specs.declared.tasks.Reach.TheVariants as reach
 use Rattle.source_reader.specs.Names.{Scope, WithName, Waited, Inner, meaning_of, new_number}
 use Rattle.source_reader.specs.Tasks.{free_group, waited, leaving, block_end}
 use Rattle.source_reader.specs.Waits.{next_wait}
-use Rattle.source_reader.specs.Values.{unexpected}
 use Rattle.source_reader.specs.Lines.{assigned, leaves, after_begin, after_line_ends, ended, after_end, let_name}
 use Rattle.source_reader.specs.declared.calls.Run.TheVariants as run
 use Rattle.source_reader.specs.Calls.{run_at, is_spawn}
 use Rattle.source_reader.specs.Groups.{gathered, group_at, into_at, cancel_at}
 use Rattle.source_reader.specs.Simple.{ReadStmt, condition_at, count_at, let_at, assigned_at, wait_at, sync_at, region_at}
 use Rattle.source_reader.specs.Returns.{return_at}
+use Rattle.source_reader.specs.Marks.{unexpected}
 
 -- What is read: `{ .. }`; what follows `{`, where what comes may never be reached; a statement; or what may follow the block of an `if`. Each says whether there is a loop around it.
 pub data Part : Type 0 where

@@ -10,6 +10,7 @@ use Rattle.source_language.specs.declared.syntax.Question.{Question}
 use Rattle.source_language.specs.declared.syntax.Stmt.{Stmt}
 use Rattle.source_language.specs.declared.syntax.Stmt.TheVariants as stmt
 use Rattle.source_language.specs.declared.syntax.Function.{Function}
+use Rattle.source_reader.specs.declared.inlines.Inline.{Inline}
 use Rattle.source_reader.specs.declared.joining.Value.{Value}
 use Rattle.source_reader.specs.declared.joining.Value.TheVariants as value
 
@@ -47,6 +48,14 @@ pub data ValueTree : Type 0 where
 abbrev pub value_tree_of : Value → ValueTree
 value_tree_of (value.Number e) = NumberTree (tree_of e)
 value_tree_of (value.Truth t) = TruthTree (test_tree_of t)
+
+-- an inline function: how many parameters it has, and its value, where they are variables with the numbers from 0 on
+pub record InlineTree : Type 0 where
+  pub parameters : ℕ
+  pub value : ValueTree
+
+abbrev pub inline_tree_of : Inline → InlineTree
+inline_tree_of f = record { parameters = f.parameters; value = value_tree_of f.value }
 
 pub data StmtTree : Type 0 where
   SkipTree : StmtTree

@@ -1,5 +1,5 @@
 -- Values: operators of nine levels between numbers, variables and values in parentheses.
-use Rattle.std.specs.Prelude.{ℕ, zero, suc, ◌+◌, ◌==◌, ◌||◌, nat_lt, pos, negsuc, int_le, Bool, true, List, [], ◌∷◌, drop, Option, Some, None, Result, Ok, Err, if◌then◌else◌}
+use Rattle.std.specs.Prelude.{ℕ, zero, suc, ◌+◌, ◌==◌, ◌||◌, nat_lt, pos, negsuc, int_le, Bool, true, List, [], ◌∷◌, ◌++◌, length, drop, Option, Some, None, Result, Ok, Err, if◌then◌else◌}
 use Rattle.std.specs.Ordering.{int_eq}
 use Rattle.source_tokens.specs.declared.tokens.Sign.{Sign}
 use Rattle.source_tokens.specs.declared.tokens.Sign.TheVariants as sign
@@ -10,31 +10,14 @@ use Rattle.source_reader.specs.declared.faults.Fault.{Fault}
 use Rattle.source_reader.specs.declared.faults.Wrong.TheVariants as wrong
 use Rattle.source_reader.specs.declared.values.TheConstants.{VALUE_FUEL}
 use Rattle.source_reader.specs.Faults.{◌>>=◌, fault_at}
-use Rattle.source_reader.specs.Trees.{ExprTree, ValueTree, Constant, Variable, SlotTree, WidthTree, NumberTree, TruthTree, NotTree}
+use Rattle.source_reader.specs.Trees.{ExprTree, ValueTree, InlineTree, Constant, Variable, SlotTree, WidthTree, NumberTree, TruthTree, NotTree}
 use Rattle.source_reader.specs.declared.names.Meaning.{Meaning}
 use Rattle.source_reader.specs.declared.names.Meaning.TheVariants as meaning
-use Rattle.source_reader.specs.Names.{Scope, meaning_of}
+use Rattle.source_reader.specs.Names.{Scope, meaning_of, inline_of}
 use Rattle.source_reader.specs.Waits.{awaited_at}
 use Rattle.source_reader.specs.Joining.{level_of, test_in, minus, complement, joined}
-
-abbrev pub unexpected : {A : Type 0} → List Token → Result A Fault
-unexpected ts = Err (fault_at ts wrong.Unexpected)
-
-abbrev pub after_open_of : Kind → List Token → List Token → Result (List Token) Fault
-after_open_of kind.Open rest ts = Ok rest
-after_open_of k rest ts = unexpected ts
-
-abbrev pub after_open : List Token → Result (List Token) Fault
-after_open [] = unexpected []
-after_open (t ∷ ts) = after_open_of t.kind ts (t ∷ ts)
-
-abbrev pub after_close_of : Kind → List Token → List Token → Result (List Token) Fault
-after_close_of kind.Close rest ts = Ok rest
-after_close_of k rest ts = unexpected ts
-
-abbrev pub after_close : List Token → Result (List Token) Fault
-after_close [] = unexpected []
-after_close (t ∷ ts) = after_close_of t.kind ts (t ∷ ts)
+use Rattle.source_reader.specs.Marks.{unexpected, after_open, after_close, is_close, wrong_count, after_last, before_next}
+use Rattle.source_reader.specs.Inlines.{given_in, inserted}
 
 -- the operator of that level at the front
 abbrev pub sign_of : ℕ → Kind → Option Sign
@@ -45,11 +28,12 @@ abbrev pub sign_at : ℕ → List Token → Option Sign
 sign_at l [] = None
 sign_at l (t ∷ ts) = sign_of l t.kind
 
--- What is read: a value of operators of that level and tighter ones; more of them behind a value; or one without operators.
+-- What is read: a value of operators of that level and tighter ones; more of them behind a value; one without operators; or, behind arguments of an inline function, one more and what is inserted.
 pub data Wanted : Type 0 where
   Level : ℕ → Wanted
   More : ℕ → ValueTree → Wanted
   Single : Wanted
+  Argument : InlineTree → (before : List ExprTree) → (called : List Token) → Wanted
 
 -- a value, and the tokens after it
 abbrev pub Read : Type 0
@@ -65,6 +49,7 @@ worth (meaning.Closed v) ts = Err (fault_at ts wrong.GroupValue)
 worth (meaning.Task t) ts = Err (fault_at ts wrong.NotWaited)
 worth (meaning.OuterTask t) ts = Err (fault_at ts wrong.NotWaited)
 worth (meaning.Cell k) ts = Err (fault_at ts wrong.CellValue)
+worth meaning.Inline ts = unexpected ts
 
 abbrev pub named : Option Meaning → List Token → List Token → Read
 named None ts rest = Err (fault_at ts wrong.UnknownName)
@@ -113,9 +98,37 @@ without_arguments e rest = do
   after ← after_close inside
   Ok (NumberTree e, after)
 
+abbrev pub no_argument : InlineTree → (called ts : List Token) → Read
+no_argument f called ts = if is_close ts then (inserted f [] called >>= λ v. Ok (v, drop 1 ts)) else wrong_count called
+
+abbrev pub some_arguments : (Wanted → List Token → Read) → InlineTree → (called ts : List Token) → Read
+some_arguments next f called ts = if is_close ts then wrong_count called else next (Argument f [] called) ts
+
+-- behind the name of an inline function, which is the first of the tokens `called`
+abbrev pub applied : (Wanted → List Token → Read) → InlineTree → (called ts : List Token) → Read
+applied next f called ts = do
+  inside ← after_open ts
+  if f.parameters == 0 then no_argument f called inside else some_arguments next f called inside
+
+abbrev pub named_or : (Wanted → List Token → Read) → Option InlineTree → Option Meaning → List Token → List Token → Read
+named_or next (Some f) m ts rest = applied next f ts rest
+named_or next None m ts rest = named m ts rest
+
+-- behind these arguments: another one, or the end
+abbrev pub behind_argument : (Wanted → List Token → Read) → InlineTree → List ExprTree → (called ts : List Token) → Read
+behind_argument next f es called ts =
+    if length es == f.parameters then (after_last called ts >>= λ after. inserted f es called >>= λ v. Ok (v, after))
+    else (before_next called ts >>= λ rest. next (Argument f es called) rest)
+
+abbrev pub one_argument : (Wanted → List Token → Read) → InlineTree → List ExprTree → (called ts : List Token) → Read
+one_argument next f before called ts = do
+  v ← next (Level 0) ts
+  e ← given_in v.0 ts
+  behind_argument next f (before ++ e ∷ []) called v.1
+
 abbrev pub single_of : (Wanted → List Token → Read) → Scope → Kind → List Token → List Token → Read
 single_of next names (kind.Number n) ts rest = Ok (NumberTree (Constant n), rest)
-single_of next names (kind.Name x) ts rest = named (meaning_of x names) ts rest
+single_of next names (kind.Name x) ts rest = named_or next (inline_of x names) (meaning_of x names) ts rest
 single_of next names (kind.Sign sign.Minus) ts rest = negative next ts rest
 single_of next names kind.Complement ts rest = complemented next ts rest
 single_of next names kind.Not ts rest = next Single rest >>= λ v. Ok (TruthTree (NotTree (test_in v.0)), v.1)
@@ -133,6 +146,7 @@ abbrev pub step : (Wanted → List Token → Read) → Scope → Wanted → List
 step next names (Level l) ts = if nat_lt l 9 then (next (Level (l + 1)) ts >>= λ first. next (More l first.0) first.1) else next Single ts
 step next names (More l left) ts = more next l left (sign_at l ts) ts
 step next names Single ts = single next names ts
+step next names (Argument f before called) ts = one_argument next f before called ts
 
 -- The number bounds how deep values are nested and how many operators there are.
 unfoldable pub value_at : ℕ → Scope → Wanted → List Token → Read

@@ -1,19 +1,20 @@
 // Functions that are run: called, spawned, as regions, or posted.
 ghost use Rattle.std.specs.Prelude.{◌≡◌, IfOk};
-ghost use Rattle.source_reader.specs.Calls.{found, callee_at, argument_at, after_last, before_next, view_arguments, no_argument, one_argument, two_arguments, arguments_at, made, run_at, spawn_at, is_spawn};
+ghost use Rattle.source_reader.specs.Calls.{found, callee_at, argument_at, view_arguments, no_argument, one_argument, two_arguments, arguments_at, made, run_at, spawn_at, is_spawn};
 ghost use Rattle.source_reader.specs.Faults.{Gives};
 ghost use Rattle.source_reader.specs.Headers.{callee_in};
 ghost use Rattle.source_reader.specs.Names.{names_of, functions_in};
 ghost use Rattle.source_reader.specs.Trees.{tree_of, stmt_tree_of};
+ghost use Rattle.source_reader.specs.Marks.{after_last, before_next};
 
 use crate::faults::{ReadError, Wrong, fault_at};
 use crate::headers::{Callee, Title, callee_in, title_at};
 use crate::joining::number_in;
-use crate::lines::is_close;
+use crate::marks::{after_first, after_last, after_open, before_next, is_close};
 use crate::names::{Names, TaskGroup};
 use crate::tasks::{free_group, group_of};
 use crate::trees::then;
-use crate::values::{after_first, after_open, whole_value};
+use crate::values::whole_value;
 use job_language::Group;
 use source_language::{Expr, Maker, Stmt};
 use source_tokens::{Kind, Token};
@@ -29,6 +30,7 @@ fn callee_of(title: Title, names: &Names) -> Option<Callee>
     match names {
         Names::Functions(functions) => callee_in(title, functions, 0),
         Names::Name(_, _, others) => callee_of(title, others),
+        Names::Inline(_, _, others) => callee_of(title, others),
         Names::Waited(_, others) => callee_of(title, others),
         Names::Inner(_, others) => callee_of(title, others),
     }
@@ -67,34 +69,6 @@ fn argument_at<'a>(
     let (value, rest) = whole_value(alloc, names, tokens)?;
     let number = number_in(alloc, value, tokens)?;
     Ok((number, rest))
-}
-
-/// What follows the last argument and `)`.
-fn after_last<'a>(called: &[Token], tokens: &'a [Token]) -> Result<&'a [Token], ReadError>
-    ensures { Gives (λ ts. ts.now) result (after_last called.now tokens.entry.now) }
-{
-    match tokens.split_first() {
-        Some((first, rest)) => match first.kind {
-            Kind::Close => Ok(rest),
-            Kind::Comma => Err(fault_at(called, Wrong::ArgumentCount)),
-            _ => Err(fault_at(tokens, Wrong::Unexpected)),
-        },
-        None => Err(fault_at(tokens, Wrong::Unexpected)),
-    }
-}
-
-/// What follows an argument and `,`.
-fn before_next<'a>(called: &[Token], tokens: &'a [Token]) -> Result<&'a [Token], ReadError>
-    ensures { Gives (λ ts. ts.now) result (before_next called.now tokens.entry.now) }
-{
-    match tokens.split_first() {
-        Some((first, rest)) => match first.kind {
-            Kind::Comma => Ok(rest),
-            Kind::Close => Err(fault_at(called, Wrong::ArgumentCount)),
-            _ => Err(fault_at(tokens, Wrong::Unexpected)),
-        },
-        None => Err(fault_at(tokens, Wrong::Unexpected)),
-    }
 }
 
 /// The two numbers that a task gets.

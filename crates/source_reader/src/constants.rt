@@ -7,8 +7,9 @@ ghost use Rattle.source_reader.specs.Trees.{tree_of, value_tree_of};
 
 use crate::faults::{ReadError, Wrong, fault_at};
 use crate::joining::{Value, number_in};
+use crate::marks::after_first;
 use crate::names::Names;
-use crate::values::{after_first, whole_value};
+use crate::values::whole_value;
 use source_language::Expr;
 use source_tokens::{Kind, Token};
 use std::alloc::Global;

@@ -6,9 +6,9 @@ ghost use Rattle.source_reader.specs.Statements.{is_group, let_meaning, declared
 
 use crate::calls::is_spawn;
 use crate::faults::ReadError;
+use crate::marks::after_first;
 use crate::names::{Meaning, Names, Task};
 use crate::tasks::free_group;
-use crate::values::after_first;
 use source_tokens::{Kind, Token};
 
 /// What follows `let x =`.

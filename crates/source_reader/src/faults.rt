@@ -11,9 +11,9 @@ use std::alloc::{AllocError, AllocFailed};
 pub enum Wrong {
     /// Another token was wanted.
     Unexpected,
-    /// No variable, constant or cell of this name is there.
+    /// No variable, constant, cell or inline function of this name is there.
     UnknownName,
-    /// A variable, a constant or a cell of this name is there already.
+    /// A variable, a constant, a cell or an inline function of this name is there already.
     KnownName,
     /// More variables than a function may have.
     TooManyNames,
@@ -23,9 +23,9 @@ pub enum Wrong {
     NoConstant,
     /// The step of a loop is 0.
     NoStep,
-    /// A constant or a cell below a function.
+    /// A constant, a cell or an inline function below a function, or one of the first two below an inline function.
     LateItem,
-    /// More constants and cells than a source may have.
+    /// More constants and cells than a source may have, or more inline functions.
     TooManyItems,
     /// The key of a cell is no number from 0 to 7.
     WrongKey,
@@ -37,6 +37,8 @@ pub enum Wrong {
     CellValue,
     /// A division that `&&` or `||` may skip, where a number is wanted.
     SkippedDivision,
+    /// A division in what an inline function is given.
+    GivenDivision,
     /// Too many operators and parentheses, or too many statements.
     TooLong,
     /// A statement that is never reached.
@@ -47,7 +49,7 @@ pub enum Wrong {
     KnownFunction,
     /// No function of this name is there.
     UnknownFunction,
-    /// A function is called with more or fewer arguments than it has parameters.
+    /// A function gets more or fewer arguments than it has parameters.
     ArgumentCount,
     /// A task or a group, where a variable is wanted, that was not waited for.
     NotWaited,

@@ -6,10 +6,10 @@ ghost use Rattle.source_reader.specs.Names.{names_of};
 ghost use Rattle.source_reader.specs.Functions.{larger, given, made_for, variables_of, after_fn, is_this, is_known, function_name, second_name, parameters_at, body_at, view_named, function_at, functions_from};
 
 use crate::faults::{ReadError, Wrong, fault_at};
-use crate::lines::{after_comma, after_line_ends, free_name, is_close, item_ended};
+use crate::lines::{after_comma, after_line_ends, free_name, item_ended};
+use crate::marks::{after_close, after_first, after_open, is_close};
 use crate::names::{Meaning, Names, number_after};
 use crate::statements::block_at;
-use crate::values::{after_close, after_first, after_open};
 use source_language::{Function, Maker, Stmt};
 use source_tokens::{Kind, Token};
 use std::alloc::Global;
@@ -60,7 +60,7 @@ fn larger(a: u8, b: u8) -> u8
     if a < b { b } else { a }
 }
 
-/// What follows `fn`. No constant and no cell stands below a function.
+/// What follows `fn`. No constant, no cell and no inline function stands below a function.
 fn after_fn(tokens: &[Token]) -> Result<&[Token], ReadError>
     ensures { Gives (λ ts. ts.now) result (after_fn tokens.now) }
 {
@@ -69,6 +69,7 @@ fn after_fn(tokens: &[Token]) -> Result<&[Token], ReadError>
             Kind::Fn => Ok(rest),
             Kind::Const => Err(fault_at(tokens, Wrong::LateItem)),
             Kind::Cell => Err(fault_at(tokens, Wrong::LateItem)),
+            Kind::Inline => Err(fault_at(tokens, Wrong::LateItem)),
             _ => Err(fault_at(tokens, Wrong::Unexpected)),
         },
         None => Err(fault_at(tokens, Wrong::Unexpected)),

@@ -1,10 +1,9 @@
 // The functions that a source declares: a body may call them before they are read.
 ghost use Rattle.std.specs.Prelude.{◌≡◌, IfOk};
-ghost use Rattle.source_reader.specs.Headers.{is_fn, title_of, title_at, parameters_in, header_of, headers_of, is_same, callee_in};
+ghost use Rattle.source_reader.specs.Headers.{is_fn, is_inline, begins, title_of, title_at, parameters_in, header_of, headers_behind, headers_of, is_same, callee_in};
 
-use crate::lines::is_close;
+use crate::marks::{after_first, is_close};
 use crate::names::number_after;
-use crate::values::after_first;
 use source_tokens::{Kind, Token};
 use std::alloc::{AllocError, Global};
 
@@ -31,13 +30,29 @@ pub(crate) struct Callee {
     pub(crate) parameters: u8,
 }
 
-pub(crate) fn is_fn(kind: Kind) -> bool
+fn is_fn(kind: Kind) -> bool
     ensures { result ≡ is_fn kind }
 {
     match kind {
         Kind::Fn => true,
         _ => false,
     }
+}
+
+pub(crate) fn is_inline(kind: Kind) -> bool
+    ensures { result ≡ is_inline kind }
+{
+    match kind {
+        Kind::Inline => true,
+        _ => false,
+    }
+}
+
+/// Whether a function begins with this token, and not an inline one, for which there is `inline` before `fn`.
+pub(crate) fn begins(behind_inline: bool, kind: Kind) -> bool
+    ensures { result ≡ begins behind_inline kind }
+{
+    is_fn(kind) && !behind_inline
 }
 
 fn title_of(kind: Kind) -> Title
@@ -89,11 +104,13 @@ pub(crate) fn headers_in(alloc: Global, tokens: &[Token]) -> Result<Vec<Header>,
 {
     let mut headers = Vec::new(alloc);
     let mut left = tokens;
+    let mut behind_inline = false;
     while let [first, rest @ ..] = left {
         left = rest;
-        if is_fn(first.kind) {
+        if begins(behind_inline, first.kind) {
             headers.push(header_of(rest))?;
         }
+        behind_inline = is_inline(first.kind);
     }
     Ok(headers)
 }

@@ -1,23 +1,29 @@
-// Constants and cells, and the functions below them.
+// Constants and cells, inline functions below them, and the functions below these.
 ghost use Rattle.std.specs.Prelude.{◌≡◌, map};
 ghost use Rattle.source_reader.specs.Faults.{Gives};
 ghost use Rattle.source_reader.specs.Trees.{function_tree_of};
 ghost use Rattle.source_reader.specs.Names.{names_of};
-ghost use Rattle.source_reader.specs.Items.{constant_at, is_item, is_cell, declared_at, items_from};
+ghost use Rattle.source_reader.specs.Items.{constant_at, is_item, is_cell, is_inline, declared_at, inlines_from, items_from};
 
 use crate::constants::constant_in;
 use crate::faults::{ReadError, Wrong, fault_at};
 use crate::functions::functions_from;
+use crate::headers::is_inline as is_inline_of;
 use crate::keys::cell_at;
 use crate::lines::{after_line_ends, after_set, free_name, item_ended};
+use crate::marks::after_first;
 use crate::names::{Meaning, Names};
-use crate::values::{after_first, whole_value};
+use crate::parameters::inline_at;
+use crate::values::whole_value;
 use source_language::Function;
 use source_tokens::{Kind, Token};
 use std::alloc::Global;
 
 /// How many constants and cells a source may have.
 pub const ITEMS: u8 = 100;
+
+/// How many inline functions a source may have.
+pub const INLINES: u8 = 100;
 
 /// How many functions a source may have.
 pub const FUNCTIONS: u8 = 16;
@@ -64,6 +70,15 @@ fn is_cell(tokens: &[Token]) -> bool
     }
 }
 
+fn is_inline(tokens: &[Token]) -> bool
+    ensures { result ≡ is_inline tokens.now }
+{
+    match tokens.split_first() {
+        Some((first, _)) => is_inline_of(first.kind),
+        None => false,
+    }
+}
+
 /// The name of a constant or a cell, whose word is at the front, what it stands for, and the tokens after it.
 fn declared_at<'a>(
     alloc: Global,
@@ -84,7 +99,36 @@ fn declared_at<'a>(
     }
 }
 
-/// So many constants and cells at most, behind those of these names, and the functions below them.
+/// So many inline functions at most, behind what has these names, and the functions below them.
+#[tactic(auto, using(crate::proofs::ItemSteps::inline_steps))]
+fn inlines_from(
+    alloc: Global,
+    left: u8,
+    names: &Names,
+    tokens: &[Token],
+) -> Result<Vec<Function>, ReadError>
+    ensures { Gives (λ v. map function_tree_of v.items) result
+        (inlines_from left (names_of names.now) tokens.now) }
+{
+    let lines = after_line_ends(tokens);
+    if !is_inline(lines) {
+        let known = Vec::new(alloc);
+        return functions_from(alloc, FUNCTIONS, names, known, Vec::new(alloc), lines);
+    }
+    if left == 0 {
+        return Err(fault_at(lines, Wrong::TooManyItems));
+    }
+    match inline_at(alloc, names, after_first(lines)) {
+        Ok((name, (inline, rest))) => {
+            let rest = item_ended(rest)?;
+            let inner = Names::Inline(name, &inline, &*names);
+            inlines_from(alloc, left - 1, &inner, rest)
+        }
+        Err(error) => Err(error),
+    }
+}
+
+/// So many constants and cells at most, behind those of these names, and what stands below them.
 #[tactic(auto, using(crate::proofs::ItemSteps::item_steps))]
 pub(crate) fn items_from(
     alloc: Global,
@@ -97,8 +141,7 @@ pub(crate) fn items_from(
 {
     let lines = after_line_ends(tokens);
     if !is_item(lines) {
-        let known = Vec::new(alloc);
-        return functions_from(alloc, FUNCTIONS, names, known, Vec::new(alloc), lines);
+        return inlines_from(alloc, INLINES, names, lines);
     }
     if left == 0 {
         return Err(fault_at(lines, Wrong::TooManyItems));

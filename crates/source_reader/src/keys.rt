@@ -8,8 +8,8 @@ ghost use Rattle.source_reader.specs.Names.{names_of};
 
 use crate::faults::{ReadError, Wrong, fault_at};
 use crate::lines::free_name;
+use crate::marks::after_first;
 use crate::names::{Meaning, Names};
-use crate::values::after_first;
 use job_language::Key;
 use source_tokens::{Kind, Token};
 
@@ -70,6 +70,7 @@ fn has_key(key: Key, names: &Names) -> bool
     match names {
         Names::Functions(_) => false,
         Names::Name(_, meaning, others) => is_of_key(key, *meaning) || has_key(key, others),
+        Names::Inline(_, _, others) => has_key(key, others),
         Names::Waited(_, others) => has_key(key, others),
         Names::Inner(_, others) => has_key(key, others),
     }

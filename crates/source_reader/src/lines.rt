@@ -2,7 +2,8 @@
 ghost use Rattle.std.specs.Prelude.{◌≡◌, option_map};
 ghost use Rattle.source_reader.specs.Faults.{Gives};
 ghost use Rattle.source_reader.specs.Names.{names_of};
-ghost use Rattle.source_reader.specs.Lines.{after_begin, after_set, after_in, after_range, after_comma, is_close, name_at, free_name, is_line_end, is_end, after_line_ends, ended, item_ended, after_end, name_in, let_name};
+ghost use Rattle.source_reader.specs.Lines.{after_begin, after_set, after_in, after_range, after_comma, name_at, free_name, is_line_end, is_end, after_line_ends, ended, item_ended, after_end, name_in, let_name};
+ghost use Rattle.source_reader.specs.Marks.{is_close};
 
 use crate::faults::{ReadError, Wrong, fault_at};
 use crate::names::{Names, meaning_of};
@@ -70,19 +71,6 @@ pub(crate) fn after_comma(tokens: &[Token]) -> Result<&[Token], ReadError>
             _ => Err(fault_at(tokens, Wrong::Unexpected)),
         },
         None => Err(fault_at(tokens, Wrong::Unexpected)),
-    }
-}
-
-/// Whether there is a `)` at the front.
-pub(crate) fn is_close(tokens: &[Token]) -> bool
-    ensures { result ≡ is_close tokens.now }
-{
-    match tokens.split_first() {
-        Some((first, _)) => match first.kind {
-            Kind::Close => true,
-            _ => false,
-        },
-        None => false,
     }
 }
 

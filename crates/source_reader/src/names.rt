@@ -2,10 +2,12 @@
 ghost use Rattle.std.specs.Prelude.{◌≡◌};
 ghost use Rattle.std.specs.Option.{option_map};
 ghost use Rattle.source_reader.specs.Faults.{Gives};
-ghost use Rattle.source_reader.specs.Names.{names_of, is_same_group, behind_wait, awaited, outer, meaning_of, number_after, number_behind, number_past, number_next, new_number};
+ghost use Rattle.source_reader.specs.Trees.{inline_tree_of};
+ghost use Rattle.source_reader.specs.Names.{names_of, is_same_group, behind_wait, awaited, outer, meaning_of, inline_of, number_after, number_behind, number_past, number_next, new_number};
 
 use crate::faults::{ReadError, Wrong, fault_at};
 use crate::headers::Header;
+use crate::inlines::Inline;
 use job_language::Key;
 use source_tokens::Token;
 
@@ -17,8 +19,8 @@ pub(crate) enum TaskGroup {
     Third,
 }
 
-/// A task that has a name: the variable that its value goes to, and its group, which no other task has before this one is
-/// waited for. Or any number of tasks, whose group has the name: their variable is the next one that is free.
+/// A task that has a name: the variable that its value goes to, and its group, which no other task has before this one
+/// is waited for. Or any number of tasks, whose group has the name: their variable is the next one that is free.
 #[derive(Clone, Copy)]
 pub(crate) struct Task {
     pub(crate) variable: u8,
@@ -43,15 +45,18 @@ pub(crate) enum Meaning {
     OuterTask(Task),
     /// The cells of that key, one for each slot.
     Cell(Key),
+    /// An inline function.
+    Inline,
 }
 
-/// The names that a place sees, the last one first, and the functions of the source. Constants and cells are
-/// declared before all variables.
+/// The names that a place sees, the last one first, and the functions of the source. Constants, cells and inline
+/// functions are declared before all variables.
 #[derive(Drop)]
 pub(crate) enum Names<'a> {
     /// The functions of the source.
     Functions(&'a [Header]),
     Name(usize, Meaning, &'a Names<'a>),
+    Inline(usize, &'a Inline, &'a Names<'a>),
     /// The names behind a wait for the task of that group.
     Waited(TaskGroup, &'a Names<'a>),
     /// The names at the beginning of a block inside the function's own, and whether it is that of a loop.
@@ -119,6 +124,13 @@ pub(crate) fn meaning_of(name: usize, names: &Names) -> Option<Meaning>
                 meaning_of(name, others)
             }
         }
+        Names::Inline(first, _, others) => {
+            if *first == name {
+                Some(Meaning::Inline)
+            } else {
+                meaning_of(name, others)
+            }
+        }
         Names::Waited(group, others) => match meaning_of(name, others) {
             Some(meaning) => Some(awaited(*group, meaning)),
             None => None,
@@ -127,6 +139,25 @@ pub(crate) fn meaning_of(name: usize, names: &Names) -> Option<Meaning>
             Some(meaning) => Some(outer(meaning)),
             None => None,
         },
+    }
+}
+
+/// The inline function of that name.
+pub(crate) fn inline_of<'a>(name: usize, names: &'a Names) -> Option<&'a Inline>
+    ensures { option_map (λ f. inline_tree_of f.now) result ≡ inline_of name (names_of names.entry.now) }
+{
+    match names {
+        Names::Functions(_) => None,
+        Names::Name(_, _, others) => inline_of(name, others),
+        Names::Inline(first, inline, others) => {
+            if *first == name {
+                Some(inline)
+            } else {
+                inline_of(name, others)
+            }
+        }
+        Names::Waited(_, others) => inline_of(name, others),
+        Names::Inner(_, others) => inline_of(name, others),
     }
 }
 
@@ -172,6 +203,7 @@ fn number_next(meaning: Meaning, tokens: &[Token]) -> Result<u8, ReadError>
         Meaning::Closed(number) => Ok(number),
         Meaning::OuterTask(task) => number_past(task, tokens),
         Meaning::Cell(_) => Ok(0),
+        Meaning::Inline => Ok(0),
     }
 }
 
@@ -182,6 +214,7 @@ pub(crate) fn new_number(names: &Names, tokens: &[Token]) -> Result<u8, ReadErro
     match names {
         Names::Functions(_) => Ok(0),
         Names::Name(_, meaning, _) => number_next(*meaning, tokens),
+        Names::Inline(_, _, _) => Ok(0),
         Names::Waited(_, others) => new_number(others, tokens),
         Names::Inner(_, others) => new_number(others, tokens),
     }

@@ -13,10 +13,11 @@ use crate::givers::{Giver, given_by, giver_at};
 use crate::groups::own_group_at;
 use crate::joining::{Value, arithmetic, test_in};
 use crate::lines::{after_in, after_range, after_set, free_name};
+use crate::marks::after_first;
 use crate::names::{Meaning, Names, meaning_of, new_number, number_behind};
 use crate::tasks::{Reach, group_of, pending_task};
 use crate::trees::assigned;
-use crate::values::{after_first, whole_value};
+use crate::values::whole_value;
 use crate::waits::awaited_at;
 use source_language::{Expr, Stmt, Test};
 use source_tokens::{Kind, Token};
@@ -137,6 +138,7 @@ fn assigned_to<'a>(
         Meaning::Counter(_) => Err(fault_at(tokens, Wrong::NotAssigned)),
         Meaning::Constant(_) => Err(fault_at(tokens, Wrong::NotAssigned)),
         Meaning::Cell(key) => store_at(alloc, names, key, rest),
+        Meaning::Inline => Err(fault_at(tokens, Wrong::NotAssigned)),
     }
 }
 

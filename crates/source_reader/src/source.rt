@@ -4,10 +4,14 @@ ghost use Rattle.source_tokens.specs.Tokens.{tokens_of};
 ghost use Rattle.source_reader.specs.Faults.{Gives};
 ghost use Rattle.source_reader.specs.Trees.{function_tree_of};
 ghost use Rattle.source_reader.specs.Places.{beginning, place_left, place_of};
+ghost use Rattle.source_reader.specs.Items.{items_from};
+ghost use Rattle.source_reader.specs.Names.{Functions};
+ghost use Rattle.source_reader.specs.declared.items.TheConstants.{ITEMS};
 ghost use Rattle.source_reader.specs.Source.{read_tokens, some_functions, GivesSource, nth_fn, function_place};
 
 use crate::faults::{Fault, ReadError, Wrong, fault_at};
-use crate::headers::{headers_in, is_fn};
+use crate::headers::{Header, begins, headers_in, is_inline};
+use crate::inlines::Inline;
 use crate::items::{ITEMS, items_from};
 use crate::names::Names;
 use crate::places::{Place, place_of};
@@ -60,17 +64,18 @@ fn place_left(tokens: &[Token], text: &[u8], left: usize) -> Place
 }
 
 /// Where the function of that number begins, or else the end.
-fn nth_fn(tokens: &[Token], number: usize, end: usize) -> usize
-    ensures { result ≡ nth_fn tokens.now number end }
+fn nth_fn(behind_inline: bool, tokens: &[Token], number: usize, end: usize) -> usize
+    ensures { result ≡ nth_fn behind_inline tokens.now number end }
 {
     match tokens.split_first() {
         Some((first, rest)) => {
-            if !is_fn(first.kind) {
-                nth_fn(rest, number, end)
+            let inline = is_inline(first.kind);
+            if !begins(behind_inline, first.kind) {
+                nth_fn(inline, rest, number, end)
             } else if number == 0 {
                 first.at
             } else {
-                nth_fn(rest, number - 1, end)
+                nth_fn(inline, rest, number - 1, end)
             }
         }
         None => end,
@@ -82,7 +87,7 @@ pub fn function_place(alloc: Global, text: &[u8], number: usize) -> Result<Place
     ensures { IfOk result (λ place. place ≡ function_place text.now number) }
 {
     let tokens = tokens_in(alloc, text)?;
-    Ok(place_of(text, nth_fn(tokens.as_slice(), number, text.len())))
+    Ok(place_of(text, nth_fn(false, tokens.as_slice(), number, text.len())))
 }
 
 /// There has to be a function.
@@ -97,12 +102,25 @@ fn some_functions(functions: Vec<Function>) -> Result<Vec<Function>, ReadError>
     }
 }
 
+/// The functions of a source that declares those of these headers.
+fn items_with(
+    alloc: Global,
+    headers: &[Header],
+    _inlines: &Vec<Inline>,
+    tokens: &[Token],
+) -> Result<Vec<Function>, ReadError>
+    ensures { Gives (λ v. map function_tree_of v.items) result
+        (items_from ITEMS (Functions headers.now) tokens.now) }
+{
+    let names = Names::Functions(headers);
+    items_from(alloc, ITEMS, &names, tokens)
+}
+
 fn read_tokens(alloc: Global, tokens: &[Token]) -> Result<Vec<Function>, ReadError>
     ensures { Gives (λ v. map function_tree_of v.items) result (read_tokens tokens.now) }
 {
     let headers = headers_in(alloc, tokens)?;
-    let names = Names::Functions(headers.as_slice());
-    let functions = items_from(alloc, ITEMS, &names, tokens)?;
+    let functions = items_with(alloc, headers.as_slice(), &Vec::new(alloc), tokens)?;
     some_functions(functions)
 }
 

@@ -69,6 +69,7 @@ fn task_in(reach: Reach, group: TaskGroup, names: &Names) -> Option<Task>
             Some(task) => Some(task),
             None => task_in(reach, group, others),
         },
+        Names::Inline(_, _, others) => task_in(reach, group, others),
         Names::Waited(other, others) => {
             if is_same_group(*other, group) {
                 None
@@ -144,6 +145,7 @@ fn is_outermost(names: &Names) -> bool
     match names {
         Names::Functions(_) => true,
         Names::Name(_, _, others) => is_outermost(others),
+        Names::Inline(_, _, others) => is_outermost(others),
         Names::Waited(_, others) => is_outermost(others),
         Names::Inner(_, _) => false,
     }

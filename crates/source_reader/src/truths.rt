@@ -28,7 +28,7 @@ fn may_fail(op: Operator, b: &Expr) -> bool
 }
 
 /// Whether an expression may divide by 0.
-fn may_divide(e: &Expr) -> bool
+pub(crate) fn may_divide(e: &Expr) -> bool
     ensures { result ≡ may_divide (tree_of e.now) }
 {
     match e {

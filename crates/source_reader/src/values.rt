@@ -1,13 +1,15 @@
 // Values: operators of nine levels between numbers, variables and values in parentheses.
-ghost use Rattle.std.specs.Prelude.{◌≡◌, drop};
+ghost use Rattle.std.specs.Prelude.{◌≡◌, map};
 ghost use Rattle.source_reader.specs.Faults.{Gives};
-ghost use Rattle.source_reader.specs.Trees.{tree_of, value_tree_of};
+ghost use Rattle.source_reader.specs.Trees.{tree_of, value_tree_of, inline_tree_of};
 ghost use Rattle.source_reader.specs.Names.{names_of, meaning_of};
-ghost use Rattle.source_reader.specs.Values.{after_open, after_close, sign_at, has_opposite, worth, named, awaited_value, without_arguments, value_at, whole_value, Level, More, Single};
+ghost use Rattle.source_reader.specs.Values.{sign_at, has_opposite, worth, named, awaited_value, without_arguments, applied, behind_argument, value_at, whole_value, Level, More, Single, Argument};
 
 use crate::faults::{ReadError, Wrong, fault_at};
+use crate::inlines::{Inline, given_in, inserted, no_argument};
 use crate::joining::{Value, complement, joined, level_of, minus, opposite};
-use crate::names::{Meaning, Names, meaning_of};
+use crate::marks::{after_close, after_first, after_last, after_open, before_next, is_close};
+use crate::names::{Meaning, Names, inline_of, meaning_of};
 use crate::waits::awaited_at;
 use source_language::Expr;
 use source_tokens::{Kind, Sign, Token};
@@ -18,42 +20,6 @@ pub const VALUE_FUEL: u16 = 600;
 
 /// The level above the tightest operators.
 const LEVELS: u8 = 9;
-
-/// What follows `(`.
-pub(crate) fn after_open(tokens: &[Token]) -> Result<&[Token], ReadError>
-    ensures { Gives (λ ts. ts.now) result (after_open tokens.now) }
-{
-    match tokens.split_first() {
-        Some((first, rest)) => match first.kind {
-            Kind::Open => Ok(rest),
-            _ => Err(fault_at(tokens, Wrong::Unexpected)),
-        },
-        None => Err(fault_at(tokens, Wrong::Unexpected)),
-    }
-}
-
-/// What follows `)`.
-pub(crate) fn after_close(tokens: &[Token]) -> Result<&[Token], ReadError>
-    ensures { Gives (λ ts. ts.now) result (after_close tokens.now) }
-{
-    match tokens.split_first() {
-        Some((first, rest)) => match first.kind {
-            Kind::Close => Ok(rest),
-            _ => Err(fault_at(tokens, Wrong::Unexpected)),
-        },
-        None => Err(fault_at(tokens, Wrong::Unexpected)),
-    }
-}
-
-/// The tokens behind the first one.
-pub(crate) fn after_first(tokens: &[Token]) -> &[Token]
-    ensures { result.now ≡ drop 1 tokens.now }
-{
-    match tokens.split_first() {
-        Some((_, rest)) => rest,
-        None => tokens,
-    }
-}
 
 /// The operator of that level at the front.
 fn sign_at(level: u8, tokens: &[Token]) -> Option<Sign>
@@ -100,6 +66,7 @@ fn worth(meaning: Meaning, tokens: &[Token]) -> Result<Expr, ReadError>
         Meaning::Task(_) => Err(fault_at(tokens, Wrong::NotWaited)),
         Meaning::OuterTask(_) => Err(fault_at(tokens, Wrong::NotWaited)),
         Meaning::Cell(_) => Err(fault_at(tokens, Wrong::CellValue)),
+        Meaning::Inline => Err(fault_at(tokens, Wrong::Unexpected)),
     }
 }
 
@@ -208,7 +175,10 @@ fn single_at<'a>(
     };
     match first.kind {
         Kind::Number(n) => Ok((Value::Number(Expr::Number(n)), rest)),
-        Kind::Name(name) => named(name, names, tokens, rest),
+        Kind::Name(name) => match inline_of(name, names) {
+            Some(inline) => applied_at(alloc, names, fuel - 1, inline, tokens, rest),
+            None => named(name, names, tokens, rest),
+        },
         Kind::Slot => without_arguments(Expr::Slot, rest),
         Kind::Width => without_arguments(Expr::Width, rest),
         Kind::Wait => awaited_value(names, rest),
@@ -232,6 +202,82 @@ fn single_at<'a>(
             Ok((value, after_close(inside)?))
         }
         _ => Err(fault_at(tokens, Wrong::Unexpected)),
+    }
+}
+
+/// What is inserted for an inline function, behind its name, which is the first of the tokens `called`.
+#[cycle(values)]
+fn applied_at<'a>(
+    alloc: Global,
+    names: &Names,
+    fuel: u16,
+    inline: &Inline,
+    called: &[Token],
+    tokens: &'a [Token],
+) -> Result<(Value, &'a [Token]), ReadError>
+    ensures { Gives (λ x. (value_tree_of x.0, x.1.now)) result
+        (applied (value_at fuel (names_of names.now)) (inline_tree_of inline.now) called.now tokens.entry.now) }
+{
+    let inside = after_open(tokens)?;
+    if inline.parameters == 0 {
+        no_argument(alloc, inline, called, inside)
+    } else if is_close(inside) {
+        Err(fault_at(called, Wrong::ArgumentCount))
+    } else {
+        argument_at(alloc, names, fuel, inline, Vec::new(alloc), called, inside)
+    }
+}
+
+/// One more argument of an inline function, behind those before, and what is inserted for the function.
+#[tactic(auto, using(crate::proofs::ValueSteps::value_steps))]
+#[cycle(values)]
+fn argument_at<'a>(
+    alloc: Global,
+    names: &Names,
+    fuel: u16,
+    inline: &Inline,
+    before: Vec<Expr>,
+    called: &[Token],
+    tokens: &'a [Token],
+) -> Result<(Value, &'a [Token]), ReadError>
+    ensures { Gives (λ x. (value_tree_of x.0, x.1.now)) result
+        (value_at fuel (names_of names.now)
+        (Argument (inline_tree_of inline.now) (map tree_of before.items) called.now) tokens.entry.now) }
+{
+    if fuel == 0 {
+        return Err(fault_at(tokens, Wrong::TooLong));
+    }
+    let (value, rest) = value_at(alloc, names, fuel - 1, 0, tokens)?;
+    let argument = given_in(alloc, value, tokens)?;
+    let mut arguments = before;
+    arguments.push(argument)?;
+    behind_argument(alloc, names, fuel - 1, inline, arguments, called, rest)
+}
+
+/// What is inserted for an inline function, behind an argument, which is the last one of these.
+#[cycle(values)]
+fn behind_argument<'a>(
+    alloc: Global,
+    names: &Names,
+    fuel: u16,
+    inline: &Inline,
+    arguments: Vec<Expr>,
+    called: &[Token],
+    tokens: &'a [Token],
+) -> Result<(Value, &'a [Token]), ReadError>
+    ensures { Gives (λ x. (value_tree_of x.0, x.1.now)) result
+        (behind_argument (value_at fuel (names_of names.now))
+        (inline_tree_of inline.now) (map tree_of arguments.items) called.now tokens.entry.now) }
+{
+    if arguments.len() == usize::from(inline.parameters) {
+        let after = after_last(called, tokens)?;
+        Ok((
+            inserted(alloc, inline, arguments.as_slice(), called)?,
+            after,
+        ))
+    } else {
+        let rest = before_next(called, tokens)?;
+        argument_at(alloc, names, fuel, inline, arguments, called, rest)
     }
 }
 

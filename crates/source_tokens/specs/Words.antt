@@ -53,11 +53,12 @@ counting_word lexeme =
     else if bytes_eq lexeme (codes "step") then Some kind.Step
     else None
 
--- `const` or `param`
-abbrev pub constant_word : List ℕ → Option Kind
-constant_word lexeme =
+-- `const`, `param` or `inline`
+abbrev pub item_word : List ℕ → Option Kind
+item_word lexeme =
     if bytes_eq lexeme (codes "const") then Some kind.Const
     else if bytes_eq lexeme (codes "param") then Some kind.Const
+    else if bytes_eq lexeme (codes "inline") then Some kind.Inline
     else None
 
 -- `spawn`, `wait` or `sync`
@@ -105,9 +106,9 @@ shared_word lexeme = first_of (region_word lexeme) (first_of (cell_word lexeme) 
 abbrev pub task_word : List ℕ → Option Kind
 task_word lexeme = first_of (waiting_word lexeme) (first_of (group_word lexeme) (shared_word lexeme))
 
--- a word of counting loops, of constants, or of tasks
+-- a word of counting loops, of what stands above functions, or of tasks
 abbrev pub later_word : List ℕ → Option Kind
-later_word lexeme = first_of (counting_word lexeme) (first_of (constant_word lexeme) (task_word lexeme))
+later_word lexeme = first_of (counting_word lexeme) (first_of (item_word lexeme) (task_word lexeme))
 
 -- a word that is taken
 abbrev pub word_named : List ℕ → Option Kind
@@ -169,11 +170,6 @@ update_named lexeme =
     else if bytes_eq lexeme (codes ">>=") then Some op.ShiftRight
     else None
 
--- a word of items
-abbrev pub is_item_word : List ℕ → Bool
-is_item_word lexeme =
-    bytes_eq lexeme (codes "inline")
-
 -- a word of parallel sums
 abbrev pub is_gathering_word : List ℕ → Bool
 is_gathering_word lexeme =
@@ -191,7 +187,7 @@ is_giving_word lexeme =
 
 -- a word of the language that is not taken
 abbrev pub is_other_word : List ℕ → Bool
-is_other_word lexeme = (is_item_word lexeme || is_gathering_word lexeme) || is_giving_word lexeme
+is_other_word lexeme = is_gathering_word lexeme || is_giving_word lexeme
 
 abbrev pub update_kind : Option Operator → List ℕ → Option Kind
 update_kind (Some o) lexeme = Some (kind.Update o)

@@ -1,6 +1,6 @@
 // Words of the language that are not taken.
 ghost use Rattle.std.specs.Prelude.{◌≡◌};
-ghost use Rattle.source_tokens.specs.Words.{is_other_word, is_item_word, is_gathering_word, is_giving_word};
+ghost use Rattle.source_tokens.specs.Words.{is_other_word, is_gathering_word, is_giving_word};
 
 use crate::words::is;
 
@@ -8,14 +8,7 @@ use crate::words::is;
 pub(crate) fn is_other_word(lexeme: &[u8]) -> bool
     ensures { result ≡ is_other_word lexeme.now }
 {
-    is_item_word(lexeme) || is_gathering_word(lexeme) || is_giving_word(lexeme)
-}
-
-/// A word of items.
-fn is_item_word(lexeme: &[u8]) -> bool
-    ensures { result ≡ is_item_word lexeme.now }
-{
-    is(lexeme, b"inline")
+    is_gathering_word(lexeme) || is_giving_word(lexeme)
 }
 
 /// A word of parallel sums.

@@ -87,6 +87,7 @@ pub enum Kind {
     Step,
     /// `const` or `param`.
     Const,
+    Inline,
     Isolate,
     Post,
     Cancelled,

@@ -1,7 +1,7 @@
 // Words of the language.
 ghost use Rattle.std.specs.Prelude.{◌≡◌};
 ghost use Rattle.std.specs.Str.{bytes_eq};
-ghost use Rattle.source_tokens.specs.Words.{word_named, opening_word, choice_word, leaving_word, asking_word, counting_word, constant_word, waiting_word, group_word, region_word, cell_word, part_word, shared_word, task_word, later_word, kind_named};
+ghost use Rattle.source_tokens.specs.Words.{word_named, opening_word, choice_word, leaving_word, asking_word, counting_word, item_word, waiting_word, group_word, region_word, cell_word, part_word, shared_word, task_word, later_word, kind_named};
 
 use crate::signs::{mark_named, sign_kind};
 use crate::tokens::{Kind, Part};
@@ -120,14 +120,16 @@ fn counting_word(lexeme: &[u8]) -> Option<Kind>
     }
 }
 
-/// `const` or `param`.
-fn constant_word(lexeme: &[u8]) -> Option<Kind>
-    ensures { result ≡ constant_word lexeme.now }
+/// `const`, `param` or `inline`.
+fn item_word(lexeme: &[u8]) -> Option<Kind>
+    ensures { result ≡ item_word lexeme.now }
 {
     if is(lexeme, b"const") {
         Some(Kind::Const)
     } else if is(lexeme, b"param") {
         Some(Kind::Const)
+    } else if is(lexeme, b"inline") {
+        Some(Kind::Inline)
     } else {
         None
     }
@@ -228,13 +230,13 @@ fn task_word(lexeme: &[u8]) -> Option<Kind>
     }
 }
 
-/// A word of counting loops, of constants, or of tasks.
+/// A word of counting loops, of what stands above functions, or of tasks.
 fn later_word(lexeme: &[u8]) -> Option<Kind>
     ensures { result ≡ later_word lexeme.now }
 {
     match counting_word(lexeme) {
         Some(kind) => Some(kind),
-        None => match constant_word(lexeme) {
+        None => match item_word(lexeme) {
             Some(kind) => Some(kind),
             None => task_word(lexeme),
         },

@@ -8,7 +8,7 @@ pub enum SourceError {
     Memory,
     /// It has a fault, or a function that can't be compiled.
     Fault(CompileFault),
-    /// It depends on more than a serial value does: a slot, the width of its arena, a cell, or whether it is cancelled; or
-    /// it posts a task.
+    /// It depends on more than a serial value does: a slot, the width of its arena, a cell, or whether it is cancelled;
+    /// or it posts a task.
     NotSerial,
 }

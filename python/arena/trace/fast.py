@@ -5,8 +5,8 @@ from collections.abc import Iterator
 from typing import Any
 
 from arena.trace.machine import (
-    ADD, AND, DIV, EQ, JMP, JZ, LE, LT, MUL, OR, REM, RUN, SET, SHARED, SHL, SHR, SLOT, SUB, XOR, Fast, Instr, Procedure,
-    Run, quotient, remainder, wrapped)
+    ADD, AND, DIV, EQ, JMP, JZ, LE, LT, MUL, OR, REM, RUN, SET, SHARED, SHL, SHR, SLOT, SUB, WIDTH, XOR, Fast, Instr,
+    Procedure, Run, quotient, remainder, wrapped)
 
 REGISTERS = "r0, r1, r2, r3, r4, r5, r6, r7"
 OPERATORS = {ADD: "+", SUB: "-", MUL: "*"}
@@ -93,5 +93,7 @@ def _instr(instr: Instr, at: int, end: int) -> Iterator[str]:
     elif op in DIVISIONS:
         yield f"if r{z:d} == 0: return Run({at:d}, count - {end - at - 1:d}, True)"
         yield f"r{x:d} = {DIVISIONS[op]}(r{y:d}, r{z:d})"
-    else:
+    elif op in (SLOT, WIDTH):
         yield f"r{x:d} = {'slot' if op == SLOT else 'width'}"
+    else:
+        raise ValueError(f"no private instruction has the number {op}")

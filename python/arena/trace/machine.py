@@ -145,6 +145,8 @@ def _step(instr: Instr, registers: list[int], at: int, slot: int, width: int) ->
         registers[x] = quotient(registers[y], registers[z])
     elif op in RESULTS:
         registers[x] = RESULTS[op](registers[y], registers[z])
-    else:
+    elif op in (SLOT, WIDTH):
         registers[x] = slot if op == SLOT else width
+    else:
+        raise ValueError(f"no private instruction has the number {op}")
     return at + 1
