@@ -25,9 +25,9 @@ pub fn can_dump<R: Files>(rt: &R, alloc: Global, path: &str) -> Result<(), DumpF
 
 /// Writes a history to the file at a path. It is written to a part beside that file, brought to the disk, and then
 /// takes its place, so that there is a whole history at any moment: the one before, or this one. A part belongs to
-/// whoever made it, so two that dump to one path don't disturb each other, and the later one's file stays. A fault is as
-/// of `Part::fill` and `Whole::keep`: no part is left then, and the file that was there stays, unless `keep` failed at
-/// its last step, after the new one had taken its place. `Kept` comes from a part that was filled whole.
+/// whoever made it, so two that dump to one path don't disturb each other, and the later one's file stays. A fault is
+/// as of `Part::fill` and `Whole::keep`: no part is left then, and the file that was there stays, unless `keep` failed
+/// at its last step, after the new one had taken its place. `Kept` comes from a part that was filled whole.
 pub fn dump_history<R: Files>(
     rt: &R,
     alloc: Global,

@@ -82,9 +82,9 @@ pub fn make_part<R: Files>(rt: &R, alloc: Global, path: &str) -> Result<Part<R::
 }
 
 impl<F: OpenFile + Write + Drop> Part<F> {
-    /// Writes a whole history to the part, and brings it to the disk: the tenant's line and one for each entry, which all
-    /// read back. At a fault the part has a first piece of it. `Device` if the file fails, `Memory` if an allocation
-    /// fails, and `NoEntry` if no history holds one of the entries.
+    /// Writes a whole history to the part, and brings it to the disk: the tenant's line and one for each entry, which
+    /// all read back. At a fault the part has a first piece of it. `Device` if the file fails, `Memory` if an
+    /// allocation fails, and `NoEntry` if no history holds one of the entries.
     pub fn fill(
         self,
         alloc: Global,
@@ -168,7 +168,8 @@ impl<F: OpenFile + Write + Drop> Whole<F> {
     }
 }
 
-/// Brings the names in the folder of a path to the disk, if its file system can do that for a folder. `Device` if it fails.
+/// Brings the names in the folder of a path to the disk, if its file system can do that for a folder. `Device` if it
+/// fails.
 fn sync_folder<R: Files>(rt: &R, path: &str) -> Result<(), DumpFault>
     ensures { result ≢ Err NoEntry }
 {

@@ -1,7 +1,7 @@
 // The thread that accepts connections.
 
 use crate::clocks::millis;
-use crate::site::Site;
+use crate::context::HostContext;
 use host_status::{Event, Fault, Refusal};
 use host_terms::{Cuts, Reception, Tenancy};
 use server_io::Endpoint;
@@ -25,11 +25,12 @@ const BETWEEN_LOOKS: u64 = 100;
 /// How long between two reports that hellos were refused, in milliseconds.
 const BETWEEN_REFUSALS: u64 = 10_000;
 
-/// Accepts connections until the host stops, and lets sessions stop waiting whose clients have gone, until nobody is left.
+/// Accepts connections until the host stops, and lets sessions stop waiting whose clients have gone, until nobody is
+/// left.
 pub(crate) fn accept_all<J: Naming, R: Wait + Clock>(
     rt: &R,
     alloc: Global,
-    site: Site<'_, J>,
+    context: HostContext<'_, J>,
     endpoint: &Endpoint<'_>,
     reception: Reception<'_, J>,
 ) {
@@ -41,11 +42,11 @@ pub(crate) fn accept_all<J: Naming, R: Wait + Clock>(
         refused: None,
     };
     for _turn in rt.forever() {
-        attend(rt, site, &mut reception);
-        if site.progress.is_over.load(Ordering::SeqCst) {
+        attend(rt, context, &mut reception);
+        if context.progress.is_over.load(Ordering::SeqCst) {
             return;
         }
-        if site.progress.is_stopping.load(Ordering::SeqCst) {
+        if context.progress.is_stopping.load(Ordering::SeqCst) {
             if !has_left {
                 has_left = true;
                 reception.leave(endpoint);
@@ -53,22 +54,29 @@ pub(crate) fn accept_all<J: Naming, R: Wait + Clock>(
             continue;
         }
         let now = millis(rt);
-        done.look(rt, alloc, site, &reception, now);
+        done.look(rt, alloc, context, &reception, now);
         match reception.admit(rt, alloc, endpoint, now) {
             Ok(admitted) => {
-                site.progress.served.fetch_add(admitted, Ordering::SeqCst);
+                context
+                    .progress
+                    .served
+                    .fetch_add(admitted, Ordering::SeqCst);
             }
-            Err(_) => done.report(rt, alloc, site, now),
+            Err(_) => done.report(rt, alloc, context, now),
         }
     }
 }
 
 /// Waits until something happens. Sessions whose clients have gone stop waiting.
-fn attend<J: Naming, R: Wait + Clock>(rt: &R, site: Site<'_, J>, reception: &mut Reception<'_, J>) {
+fn attend<J: Naming, R: Wait + Clock>(
+    rt: &R,
+    context: HostContext<'_, J>,
+    reception: &mut Reception<'_, J>,
+) {
     match reception.attend(rt) {
         Ok(has_gone) => {
             if has_gone {
-                site.host.wake(rt);
+                context.host.wake(rt);
             }
         }
         Err(_) => thread::sleep(rt, Duration::from_millis(PAUSE)),
@@ -92,14 +100,14 @@ impl Done {
         &mut self,
         rt: &R,
         alloc: Global,
-        site: Site<'_, J>,
+        context: HostContext<'_, J>,
         reception: &Reception<'_, J>,
         now: u64,
     ) {
         if now.saturating_sub(self.looked) >= BETWEEN_LOOKS {
             self.looked = now;
-            cut(rt, alloc, site, reception, now);
-            self.tell_refused(rt, alloc, site, now);
+            cut(rt, alloc, context, reception, now);
+            self.tell_refused(rt, alloc, context, now);
         }
     }
 
@@ -108,12 +116,12 @@ impl Done {
         &mut self,
         rt: &R,
         alloc: Global,
-        site: Site<'_, J>,
+        context: HostContext<'_, J>,
         now: u64,
     ) {
         if now.saturating_sub(self.reported) >= BETWEEN_REPORTS {
             self.reported = now;
-            site.say_fault(rt, alloc, Fault::Accept, None, None);
+            context.say_fault(rt, alloc, Fault::Accept, None, None);
         }
     }
 
@@ -122,7 +130,7 @@ impl Done {
         &mut self,
         rt: &R,
         alloc: Global,
-        site: Site<'_, J>,
+        context: HostContext<'_, J>,
         now: u64,
     ) {
         if let Some(refused) = self.refused
@@ -130,18 +138,22 @@ impl Done {
         {
             return;
         }
-        if report_refused(rt, alloc, site) {
+        if report_refused(rt, alloc, context) {
             self.refused = Some(now);
         }
     }
 }
 
 /// Reports for which tenants hellos were refused since that was done last. It says whether there are some.
-fn report_refused<J: Naming, R: Wait + Clock>(rt: &R, alloc: Global, site: Site<'_, J>) -> bool {
+fn report_refused<J: Naming, R: Wait + Clock>(
+    rt: &R,
+    alloc: Global,
+    context: HostContext<'_, J>,
+) -> bool {
     let mut is_reported = false;
-    for tenant in 0..site.host.count(rt) {
-        if let Some(tenancy) = site.host.tenancy(rt, tenant) {
-            is_reported |= report_refused_of(rt, alloc, site, &tenancy);
+    for tenant in 0..context.host.count(rt) {
+        if let Some(tenancy) = context.host.tenancy(rt, tenant) {
+            is_reported |= report_refused_of(rt, alloc, context, &tenancy);
         }
     }
     is_reported
@@ -151,7 +163,7 @@ fn report_refused<J: Naming, R: Wait + Clock>(rt: &R, alloc: Global, site: Site<
 fn report_refused_of<J: Naming, R: Wait + Clock>(
     rt: &R,
     alloc: Global,
-    site: Site<'_, J>,
+    context: HostContext<'_, J>,
     tenancy: &Tenancy<J>,
 ) -> bool {
     let hellos = tenancy.take_unreported();
@@ -164,7 +176,7 @@ fn report_refused_of<J: Naming, R: Wait + Clock>(
         why: Refusal::Connections,
         hellos,
     };
-    site.say(rt, alloc, refused);
+    context.say(rt, alloc, refused);
     true
 }
 
@@ -172,19 +184,22 @@ fn report_refused_of<J: Naming, R: Wait + Clock>(
 fn cut<J: Naming, R: Wait + Clock>(
     rt: &R,
     alloc: Global,
-    site: Site<'_, J>,
+    context: HostContext<'_, J>,
     reception: &Reception<'_, J>,
     now: u64,
 ) {
-    let words = site.words;
+    let words = context.words;
     let patience = Patience {
         hello: u64::from(words.hello_seconds).saturating_mul(1000),
         idle: u64::from(words.idle_seconds).saturating_mul(1000),
     };
     let Cuts { hello, idle } = reception.cut(rt, now, patience);
     if hello > 0 || idle > 0 {
-        site.progress.cut_hello.fetch_add(hello, Ordering::SeqCst);
-        site.progress.cut_idle.fetch_add(idle, Ordering::SeqCst);
-        site.say(rt, alloc, Event::Cut { hello, idle });
+        context
+            .progress
+            .cut_hello
+            .fetch_add(hello, Ordering::SeqCst);
+        context.progress.cut_idle.fetch_add(idle, Ordering::SeqCst);
+        context.say(rt, alloc, Event::Cut { hello, idle });
     }
 }

@@ -1,11 +1,11 @@
 // How a host ends.
-ghost use Rattle.std.specs.Prelude.{◌≡◌, true, false};
+ghost use Rattle.std.specs.Prelude.{◌≡◌, Err, Ok, true, false};
 
 use dump_lines::DumpFault;
 use host_status::Fault;
 use part_writer::PartFault;
 use program_words::WordsFault;
-use server_io::ServerEnd;
+use server_io::{ServerEnd, ServerFault};
 
 /// What went wrong with the histories of closed terms.
 #[derive(Clone, Copy, Debug, PartialEq, Eq, Default)]
@@ -17,48 +17,46 @@ pub(crate) struct Faults {
 }
 
 /// What the process writes to standard error.
-pub(crate) fn fault_text(end: ServerEnd) -> Option<&'static str> {
-    match end {
-        ServerEnd::Done | ServerEnd::Close => None,
-        ServerEnd::Words => Some("arena-host: words"),
-        ServerEnd::Config => Some("arena-host: config"),
-        ServerEnd::Device => Some("arena-host: device"),
-        ServerEnd::Memory => Some("arena-host: memory"),
+pub(crate) fn fault_text(fault: ServerFault) -> &'static str {
+    match fault {
+        ServerFault::Words => "arena-host: words",
+        ServerFault::Config => "arena-host: config",
+        ServerFault::Device => "arena-host: device",
+        ServerFault::Memory => "arena-host: memory",
     }
 }
 
 /// How the host ends, if that went wrong with histories.
-pub(crate) fn end_of(faults: Faults) -> ServerEnd
-    ensures lost { faults.has_lost_history ≡ true → result ≡ ServerEnd.Device }
+pub(crate) fn end_of(faults: Faults) -> Result<ServerEnd, ServerFault>
+    ensures lost { faults.has_lost_history ≡ true → result ≡ Err ServerFault.Device }
     ensures fault { faults.has_lost_history ≡ false → faults.has_close_fault ≡ true
-        → result ≡ ServerEnd.Close }
+        → result ≡ Ok ServerEnd.Close }
     ensures done { faults.has_lost_history ≡ false → faults.has_close_fault ≡ false
-        → result ≡ ServerEnd.Done }
+        → result ≡ Ok ServerEnd.Done }
 {
     if faults.has_lost_history {
-        ServerEnd::Device
+        Err(ServerFault::Device)
     } else if faults.has_close_fault {
-        ServerEnd::Close
+        Ok(ServerEnd::Close)
     } else {
-        ServerEnd::Done
+        Ok(ServerEnd::Done)
     }
 }
 
-/// How the host ends whose words were not read.
-pub(crate) fn words_fault(fault: WordsFault) -> ServerEnd {
+/// Why the host can't serve whose words were not read.
+pub(crate) fn words_fault(fault: WordsFault) -> ServerFault {
     match fault {
-        WordsFault::Words => ServerEnd::Words,
-        WordsFault::Memory => ServerEnd::Memory,
+        WordsFault::Words => ServerFault::Words,
+        WordsFault::Memory => ServerFault::Memory,
     }
 }
 
 /// What an event says of a term that could not be opened.
-pub(crate) fn event_fault(end: ServerEnd) -> Fault {
-    match end {
-        ServerEnd::Config | ServerEnd::Words => Fault::Config,
-        ServerEnd::Memory => Fault::Memory,
-        ServerEnd::Close => Fault::Close,
-        ServerEnd::Device | ServerEnd::Done => Fault::Device,
+pub(crate) fn event_fault(fault: ServerFault) -> Fault {
+    match fault {
+        ServerFault::Config | ServerFault::Words => Fault::Config,
+        ServerFault::Memory => Fault::Memory,
+        ServerFault::Device => Fault::Device,
     }
 }
 
@@ -70,18 +68,18 @@ pub(crate) fn event_dump_fault(fault: DumpFault) -> Fault {
     }
 }
 
-/// How the host ends that can't write a history at its start.
-pub(crate) fn dump_end(fault: DumpFault) -> ServerEnd {
+/// Why the host can't begin that can't write a history at its start.
+pub(crate) fn dump_fault(fault: DumpFault) -> ServerFault {
     match fault {
-        DumpFault::Memory => ServerEnd::Memory,
-        DumpFault::Device | DumpFault::NoEntry => ServerEnd::Device,
+        DumpFault::Memory => ServerFault::Memory,
+        DumpFault::Device | DumpFault::NoEntry => ServerFault::Device,
     }
 }
 
-/// How the host ends that can't begin a journal.
-pub(crate) fn part_end(fault: PartFault) -> ServerEnd {
+/// Why the host can't begin a journal.
+pub(crate) fn part_fault(fault: PartFault) -> ServerFault {
     match fault {
-        PartFault::Memory => ServerEnd::Memory,
-        PartFault::Failed | PartFault::NoEntry => ServerEnd::Device,
+        PartFault::Memory => ServerFault::Memory,
+        PartFault::Failed | PartFault::NoEntry => ServerFault::Device,
     }
 }

@@ -9,8 +9,9 @@ use std::{fs, io};
 /// How many bytes such a file has at most.
 const MOST_BYTES: u64 = 1_048_576;
 
-/// Puts a text at a path, in the place of what is there: it is written to a part beside it, brought to the disk and renamed,
-/// and the folder is brought to the disk too. So there is one whole text at any moment, the one before or this one.
+/// Puts a text at a path, in the place of what is there: it is written to a part beside it, brought to the disk and
+/// renamed, and the folder is brought to the disk too. So there is one whole text at any moment, the one before or this
+/// one.
 pub(crate) fn put_text<R: Files<File = File>>(
     rt: &R,
     alloc: Global,

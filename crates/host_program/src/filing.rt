@@ -5,10 +5,10 @@ ghost use Rattle.host_program.specs.Fates.{is_lost};
 mod files;
 
 use crate::clocks::{millis, seconds};
+use crate::context::HostContext;
 use crate::ends::{Faults, event_dump_fault};
 use crate::shelves::Shelves;
-use crate::site::Site;
-use crate::writing::{Done, Left, Work, Writer};
+use crate::writing::{Done, UnfiledTerm, Work, Writer};
 use dump_files::make_part;
 use dump_lines::DumpFault;
 use files::{closed_term, dump_path, keep_part, put_outcomes, remove_journal, tell_end};
@@ -55,7 +55,7 @@ impl Fate {
 #[derive(Drop)]
 pub(crate) struct Filing {
     /// The oldest first.
-    waiting: Vec<Left>,
+    waiting: Vec<UnfiledTerm>,
     /// The dumps that are there.
     shelves: Shelves,
     /// What went wrong with histories so far.
@@ -103,12 +103,12 @@ impl Filing {
         &mut self,
         rt: &R,
         alloc: Global,
-        site: Site<'_, J>,
-        left: Left,
+        context: HostContext<'_, J>,
+        unfiled: UnfiledTerm,
     ) {
-        if let Err(refused) = self.waiting.push(left) {
+        if let Err(refused) = self.waiting.push(unfiled) {
             let fate = Fate::unwritten(&refused.value.end);
-            self.finish(rt, alloc, site, refused.value, fate);
+            self.finish(rt, alloc, context, refused.value, fate);
         }
     }
 
@@ -117,24 +117,24 @@ impl Filing {
         &mut self,
         rt: &R,
         alloc: Global,
-        site: Site<'_, J>,
+        context: HostContext<'_, J>,
         writer: &Writer,
     )
     where
         R: Files<File = File> + Wait + Clock,
     {
         if let Some(done) = writer.take(rt) {
-            self.keep(rt, alloc, site, done);
+            self.keep(rt, alloc, context, done);
         }
         if writer.is_busy(rt) {
             return;
         }
         let now = millis(rt);
-        let Some(place) = self.waiting.iter().position(|left| left.rest <= now) else {
+        let Some(place) = self.waiting.iter().position(|unfiled| unfiled.rest <= now) else {
             return;
         };
-        let left = self.waiting.remove(place);
-        self.begin(rt, alloc, site, writer, left);
+        let unfiled = self.waiting.remove(place);
+        self.begin(rt, alloc, context, writer, unfiled);
     }
 
     /// Begins with the files of a term.
@@ -142,57 +142,57 @@ impl Filing {
         &mut self,
         rt: &R,
         alloc: Global,
-        site: Site<'_, J>,
+        context: HostContext<'_, J>,
         writer: &Writer,
-        left: Left,
+        unfiled: UnfiledTerm,
     )
     where
         R: Files<File = File> + Wait + Clock,
     {
-        let mut left = left;
-        if !left.is_told {
-            tell_end(rt, alloc, site, &left.end);
-            left.is_told = true;
+        let mut unfiled = unfiled;
+        if !unfiled.is_told {
+            tell_end(rt, alloc, context, &unfiled.end);
+            unfiled.is_told = true;
         }
-        if left.end.is_left_over() || !matches!(left.end.end, Some(Ok(_))) {
-            let fate = Fate::unwritten(&left.end);
-            return self.finish(rt, alloc, site, left, fate);
+        if unfiled.end.is_left_over() || !matches!(unfiled.end.end, Some(Ok(_))) {
+            let fate = Fate::unwritten(&unfiled.end);
+            return self.finish(rt, alloc, context, unfiled, fate);
         }
-        let made = match dump_path(alloc, site, &left.end) {
+        let made = match dump_path(alloc, context, &unfiled.end) {
             Ok(path) => make_part(rt, alloc, path.as_str()),
             Err(_) => Err(DumpFault::Memory),
         };
         match made {
-            Ok(part) => writer.give(rt, Work { left, part }),
-            Err(fault) => self.fail(rt, alloc, site, left, event_dump_fault(fault)),
+            Ok(part) => writer.give(rt, Work { unfiled, part }),
+            Err(fault) => self.fail(rt, alloc, context, unfiled, event_dump_fault(fault)),
         }
     }
 
     /// Lets a history that was written take its place, and then the outcomes. If that fails, both are tried again for a
     /// while.
-    fn keep<J: Naming, R>(&mut self, rt: &R, alloc: Global, site: Site<'_, J>, done: Done)
+    fn keep<J: Naming, R>(&mut self, rt: &R, alloc: Global, context: HostContext<'_, J>, done: Done)
     where
         R: Files<File = File> + Wait + Clock,
     {
-        let Done { left, written } = done;
-        if let Err(fault) = keep_part(rt, alloc, site, &left.end, written) {
-            return self.fail(rt, alloc, site, left, event_dump_fault(fault));
+        let Done { unfiled, written } = done;
+        if let Err(fault) = keep_part(rt, alloc, context, &unfiled.end, written) {
+            return self.fail(rt, alloc, context, unfiled, event_dump_fault(fault));
         }
-        if put_outcomes(rt, alloc, site, &left.end).is_err() {
-            return self.fail(rt, alloc, site, left, Fault::Results);
+        if put_outcomes(rt, alloc, context, &unfiled.end).is_err() {
+            return self.fail(rt, alloc, context, unfiled, Fault::Results);
         }
-        let named = left.end.tenant.tenant().name;
+        let named = unfiled.end.tenant.tenant().name;
         // What is not known of now is found at the next start.
-        let _ = site.folder.shelve(
+        let _ = context.folder.shelve(
             rt,
             alloc,
             &mut self.shelves,
             named.as_str(),
-            left.end.span.number,
-            site.words.keep,
+            unfiled.end.span.number,
+            context.words.keep,
         );
-        remove_journal(rt, alloc, site, &left.end);
-        self.finish(rt, alloc, site, left, Fate::Dumped);
+        remove_journal(rt, alloc, context, &unfiled.end);
+        self.finish(rt, alloc, context, unfiled, Fate::Dumped);
     }
 
     /// A file could not be written. It is tried again each second, for a while from the first time on.
@@ -200,30 +200,30 @@ impl Filing {
         &mut self,
         rt: &R,
         alloc: Global,
-        site: Site<'_, J>,
-        left: Left,
+        context: HostContext<'_, J>,
+        unfiled: UnfiledTerm,
         what: Fault,
     ) {
-        let mut left = left;
-        let named = left.end.tenant.tenant().name;
-        site.say_fault(
+        let mut unfiled = unfiled;
+        let named = unfiled.end.tenant.tenant().name;
+        context.say_fault(
             rt,
             alloc,
             what,
             Some(named.as_str()),
-            Some(left.end.span.number),
+            Some(unfiled.end.span.number),
         );
         let now = millis(rt);
-        let until = left.until.unwrap_or(now.saturating_add(PATIENCE));
+        let until = unfiled.until.unwrap_or(now.saturating_add(PATIENCE));
         if until <= now {
-            let fate = Fate::unwritten(&left.end);
-            return self.finish(rt, alloc, site, left, fate);
+            let fate = Fate::unwritten(&unfiled.end);
+            return self.finish(rt, alloc, context, unfiled, fate);
         }
-        left.until = Some(until);
-        left.rest = now.saturating_add(REST);
-        if let Err(refused) = self.waiting.push(left) {
+        unfiled.until = Some(until);
+        unfiled.rest = now.saturating_add(REST);
+        if let Err(refused) = self.waiting.push(unfiled) {
             let fate = Fate::unwritten(&refused.value.end);
-            self.finish(rt, alloc, site, refused.value, fate);
+            self.finish(rt, alloc, context, refused.value, fate);
         }
     }
 
@@ -232,35 +232,35 @@ impl Filing {
         &mut self,
         rt: &R,
         alloc: Global,
-        site: Site<'_, J>,
-        left: Left,
+        context: HostContext<'_, J>,
+        unfiled: UnfiledTerm,
         fate: Fate,
     ) {
-        let has_fault = matches!(left.end.end, Some(Err(_)));
+        let has_fault = matches!(unfiled.end.end, Some(Err(_)));
         self.note(has_fault, fate);
-        let number = left.end.span.number;
-        let named = left.end.tenant.tenant().name;
+        let number = unfiled.end.span.number;
+        let named = unfiled.end.tenant.tenant().name;
         if has_fault {
-            site.say_fault(rt, alloc, Fault::Close, Some(named.as_str()), Some(number));
+            context.say_fault(rt, alloc, Fault::Close, Some(named.as_str()), Some(number));
         }
-        let ms = millis(rt).saturating_sub(left.since);
-        site.say(
+        let ms = millis(rt).saturating_sub(unfiled.since);
+        context.say(
             rt,
             alloc,
             Event::Closed {
                 tenant: named.as_str(),
                 term: number,
-                why: left.end.why,
-                lost: left.end.lost(),
-                left: left.end.left_over(),
+                why: unfiled.end.why,
+                lost: unfiled.end.lost(),
+                left: unfiled.end.left_over(),
                 ms,
             },
         );
-        if let Some(tenancy) = site.host.tenancy(rt, left.tenant) {
+        if let Some(tenancy) = context.host.tenancy(rt, unfiled.tenant) {
             tenancy.end(rt, number);
         }
         // It is missing among those that are shown, and nowhere else.
-        let _ = self.show(alloc, &left.end, seconds(rt), ms, fate);
+        let _ = self.show(alloc, &unfiled.end, seconds(rt), ms, fate);
     }
 
     /// Notes what went wrong with a term's history.

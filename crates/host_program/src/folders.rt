@@ -1,24 +1,23 @@
 // The folder in which a host works.
 
 use crate::files::{put_text, text_of};
-use crate::listing::{end_of, is_part, journal_in, listed, parts_of};
+use crate::listing::{is_part, journal_in, listed, parts_of};
 use crate::numbers::{span_in, span_line};
 use crate::results::outcomes_in;
 use crate::shelves::Shelves;
 use job_language::TenantName;
-use server_io::ServerEnd;
+use server_io::ServerFault;
 use std::alloc::{AllocError, Global};
 use std::fs::{DirBuilder, File, Files};
 use std::os::unix::fs::DirBuilderExt;
 use std::{fs, io};
 use term_life::{Outcome, Span};
 
-/// The numbers of terms that a host counts in the names of files lie below this one: it has not that many, even if it opens
-/// one each microsecond for thirty years.
+/// The numbers of terms that a host counts in the names of files lie below this one: it has not that many, even if it
+/// opens one each microsecond for thirty years.
 const MOST_TERMS: u64 = 1_000_000_000_000_000;
 
 /// The paths in the folder.
-#[derive(Drop)]
 pub(crate) struct Folder {
     run: String,
     pub(crate) lock: String,
@@ -30,6 +29,24 @@ pub(crate) struct Folder {
     pub(crate) results: String,
     pub(crate) journals: String,
     pub(crate) notes: String,
+}
+
+impl Drop for Folder {
+    // An owner drops it in one call, not part by part at each of its ways out.
+    fn drop(self) {
+        let Folder {
+            run: _run,
+            lock: _lock,
+            socket: _socket,
+            rotate: _rotate,
+            status: _status,
+            dumps: _dumps,
+            terms: _terms,
+            results: _results,
+            journals: _journals,
+            notes: _notes,
+        } = self;
+    }
 }
 
 /// The journal of a term, which a host left that was killed or stopped before its jobs had their outcomes.
@@ -118,7 +135,7 @@ impl Folder {
         alloc: Global,
         name: &str,
         span: Span,
-    ) -> Result<(), ServerEnd> {
+    ) -> Result<(), ServerFault> {
         let path = format!(in alloc; "{}/{name}", self.terms.as_str())?;
         let line = span_line(alloc, span)?;
         match put_text(
@@ -129,19 +146,19 @@ impl Folder {
             line.as_bytes(),
         ) {
             Ok(()) => Ok(()),
-            Err(fault) => Err(end_of(&fault)),
+            Err(fault) => Err(ServerFault::of_system(fault)),
         }
     }
 
-    /// Where a tenant's terms and jobs are to begin, by what is on the disk of its newest term: behind all that could be
-    /// known of. `Device` if the numbers are there and can't be read.
+    /// Where a tenant's terms and jobs are to begin, by what is on the disk of its newest term: behind all that could
+    /// be known of. `Device` if the numbers are there and can't be read.
     pub(crate) fn begin<R: Files<File = File>>(
         &self,
         rt: &R,
         alloc: Global,
         name: &str,
         shelves: &Shelves,
-    ) -> Result<Begin, ServerEnd> {
+    ) -> Result<Begin, ServerFault> {
         let path = format!(in alloc; "{}/{name}", self.terms.as_str())?;
         // Dumps of a host that had no such numbers count as well.
         let dumped = shelves.next(name);
@@ -153,41 +170,41 @@ impl Folder {
                     base: 0,
                 });
             }
-            Err(fault) => return Err(end_of(&fault)),
+            Err(fault) => return Err(ServerFault::of_system(fault)),
         };
         match span {
             Some(Span { number, base, room }) => Ok(Begin {
                 number: dumped.max(number.saturating_add(1)),
                 base: base.saturating_add(room),
             }),
-            None => Err(ServerEnd::Device),
+            None => Err(ServerFault::Device),
         }
     }
 
-    /// The outcomes of a tenant's term, if they are on the disk. `Device` if they are there and can't be read, and `Memory` if
-    /// an allocation fails.
+    /// The outcomes of a tenant's term, if they are on the disk. `Device` if they are there and can't be read, and
+    /// `Memory` if an allocation fails.
     pub(crate) fn outcomes<R: Files<File = File>>(
         &self,
         rt: &R,
         alloc: Global,
         name: &str,
         term: u64,
-    ) -> Result<Vec<Outcome>, ServerEnd> {
+    ) -> Result<Vec<Outcome>, ServerFault> {
         let path = self.result(alloc, name, term)?;
         match text_of(rt, alloc, path.as_str()) {
             Ok(text) => Ok(outcomes_in(alloc, text.as_slice())?),
             Err(fault) if fault.kind() == io::ErrorKind::NotFound => Ok(Vec::new(alloc)),
-            Err(fault) => Err(end_of(&fault)),
+            Err(fault) => Err(ServerFault::of_system(fault)),
         }
     }
 
-    /// Makes the folders, removes what a host left that was killed and the dumps that are too old, and gives the dumps that
-    /// stay. `Device` if a folder can't be made or listed, and `Memory` if an allocation fails.
+    /// Makes the folders, removes what a host left that was killed and the dumps that are too old, and gives the dumps
+    /// that stay. `Device` if a folder can't be made or listed, and `Memory` if an allocation fails.
     pub(crate) fn prepare<R: Files + AllocGlobal + Clone + Drop>(
         &self,
         rt: &R,
         keep: u32,
-    ) -> Result<Shelves, ServerEnd> {
+    ) -> Result<Shelves, ServerFault> {
         let folders = [
             &self.dumps,
             &self.terms,
@@ -220,7 +237,7 @@ impl Folder {
     pub(crate) fn left_journals<R: Files + AllocGlobal + Clone + Drop>(
         &self,
         rt: &R,
-    ) -> Result<Vec<LeftJournal>, ServerEnd> {
+    ) -> Result<Vec<LeftJournal>, ServerFault> {
         let alloc = rt.alloc();
         let mut journals = Vec::new(alloc);
         for entry in &listed(rt, self.journals.as_str())? {
@@ -258,8 +275,8 @@ impl Folder {
         Ok(())
     }
 
-    /// Notes that a tenant's dump of a term is there, and removes the one that is too old then, with its outcomes: of which
-    /// at least `keep` newer ones are there.
+    /// Notes that a tenant's dump of a term is there, and removes the one that is too old then, with its outcomes: of
+    /// which at least `keep` newer ones are there.
     pub(crate) fn shelve<R: Files>(
         &self,
         rt: &R,

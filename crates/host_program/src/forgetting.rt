@@ -1,16 +1,16 @@
-// What tenants have forgotten of their closed terms, in files of notes: one for each term, of what was noted while it was the
-// newest one of its tenant.
+// What tenants have forgotten of their closed terms, in files of notes: one for each term, of what was noted while it
+// was the newest one of its tenant.
 ghost use Rattle.std.specs.Prelude.{◌≡◌, ◌==◌, filter, nat_lt};
 ghost use Rattle.std.specs.List.{list_any};
 ghost use Rattle.host_program.specs.Results.{is_kept};
 
+use crate::context::HostContext;
 use crate::files::{bytes_of, sync_folder};
-use crate::listing::{end_of, listed, parts_of};
+use crate::listing::{listed, parts_of};
 use crate::shelves::Shelves;
-use crate::site::Site;
 use host_terms::Notes;
 use program_words::Durable;
-use server_io::ServerEnd;
+use server_io::ServerFault;
 use std::alloc::{AllocError, Global};
 use std::fs::{File, Files, OpenOptions};
 use std::os::unix::fs::OpenOptionsExt;
@@ -70,7 +70,8 @@ impl Forgotten {
     }
 }
 
-/// The number that a line notes behind that word. Before the note may stand the first part of one that could not be written.
+/// The number that a line notes behind that word. Before the note may stand the first part of one that could not be
+/// written.
 fn noted_in(line: &[u8], word: &str) -> Option<u64> {
     let (_, note) = str::from_utf8(line).ok()?.rsplit_once('{')?;
     let number = note.strip_prefix(word)?.strip_suffix("}")?;
@@ -81,15 +82,15 @@ fn noted_in(line: &[u8], word: &str) -> Option<u64> {
 pub(crate) fn read_notes<J: Naming, R: Files<File = File> + AllocGlobal + Clone + Drop>(
     rt: &R,
     alloc: Global,
-    site: Site<'_, J>,
+    context: HostContext<'_, J>,
     name: &str,
-) -> Result<Forgotten, ServerEnd> {
+) -> Result<Forgotten, ServerFault> {
     let mut forgotten = Forgotten::new(alloc);
-    for entry in &listed(rt, site.folder.notes.as_str())? {
+    for entry in &listed(rt, context.folder.notes.as_str())? {
         if has_name(entry.as_str(), name) {
             match bytes_of(rt, alloc, entry.as_str()) {
                 Ok(text) => forgotten.add(text.as_slice())?,
-                Err(fault) => return Err(end_of(&fault)),
+                Err(fault) => return Err(ServerFault::of_system(fault)),
             }
         }
     }
@@ -104,38 +105,39 @@ fn has_name(path: &str, name: &str) -> bool {
     }
 }
 
-/// The notes of a tenant from now on, whose newest term has that number or is to have it. `Device` if their file can't be made,
-/// and `Memory` if an allocation fails.
+/// The notes of a tenant from now on, whose newest term has that number or is to have it. `Device` if their file can't
+/// be made, and `Memory` if an allocation fails.
 pub(crate) fn begin_notes<J: Naming, R: Files<File = File>>(
     rt: &R,
     alloc: Global,
-    site: Site<'_, J>,
+    context: HostContext<'_, J>,
     name: &str,
     term: u64,
-) -> Result<Notes, ServerEnd> {
-    let path = site.folder.forgotten(alloc, name, term)?;
+) -> Result<Notes, ServerFault> {
+    let path = context.folder.forgotten(alloc, name, term)?;
     let mut options = OpenOptions::new();
     options.append(true).create(true).mode(0o600);
     let file = match options.open(rt, path.as_str()) {
         Ok(file) => file,
-        Err(fault) => return Err(end_of(&fault)),
+        Err(fault) => return Err(ServerFault::of_system(fault)),
     };
-    let is_synced = matches!(site.words.durable, Durable::Second | Durable::Reply);
+    let is_synced = matches!(context.words.durable, Durable::Second | Durable::Reply);
     if is_synced {
-        if let Err(fault) = sync_folder(rt, site.folder.notes.as_str()) {
-            return Err(end_of(&fault));
+        if let Err(fault) = sync_folder(rt, context.folder.notes.as_str()) {
+            return Err(ServerFault::of_system(fault));
         }
     }
     Ok(Notes::new(file, is_synced))
 }
 
-/// Removes the notes that are only of terms whose outcomes are gone: no dump is there of their own term or an older one.
+/// Removes the notes that are only of terms whose outcomes are gone: no dump is there of their own term or an older
+/// one.
 pub(crate) fn remove_old_notes<J: Naming, R: Files<File = File> + AllocGlobal + Clone + Drop>(
     rt: &R,
-    site: Site<'_, J>,
+    context: HostContext<'_, J>,
     shelves: &Shelves,
-) -> Result<(), ServerEnd> {
-    for entry in &listed(rt, site.folder.notes.as_str())? {
+) -> Result<(), ServerFault> {
+    for entry in &listed(rt, context.folder.notes.as_str())? {
         let path = entry.as_str();
         if let Some((name, term)) = parts_of(path) {
             if !shelves.numbers(name).iter().any(|dumped| *dumped <= term) {

@@ -5,6 +5,7 @@ ghost use Rattle.std.specs.Prelude.{◌≡◌, IfOk, length};
 use crate::accepting::accept_all;
 use crate::clocks::millis;
 use crate::configs::read_config;
+use crate::context::{HostContext, Progress};
 use crate::ends::end_of;
 use crate::filing::Filing;
 use crate::folders::Folder;
@@ -13,14 +14,13 @@ use crate::journaling::keep_journals;
 use crate::keeping::Keeper;
 use crate::recovering::recover_all;
 use crate::shower::Shower;
-use crate::site::{Progress, Site};
 use crate::system::System;
 use crate::writing::{Writer, write_histories};
 use host_status::Event;
 use host_terms::{Desk, Host, Outlet, Place, Reception, attend_desk};
 use mio::Waker;
 use program_words::HostWords;
-use server_io::{Access, Endpoint, ServerEnd, Watch};
+use server_io::{Access, Endpoint, ServerEnd, ServerFault, Watch};
 use std::alloc::{AllocError, Global};
 use std::io::ErrorKind;
 use std::marker::Brand;
@@ -38,16 +38,16 @@ const TICK: u64 = 10;
 /// How long a client has to take a reply once its session is to stop, in milliseconds.
 const LAST_REPLIES: u64 = 1000;
 
-/// Hosts tenants in a folder until its socket is removed. An error if the host could not begin: there is no configuration, the
-/// socket can't be bound, a term or a thread can't be started, or an allocation failed. The histories of all terms are those
-/// of one registry.
+/// Hosts tenants in a folder until its socket is removed. An error if the host could not begin: there is no
+/// configuration, the socket can't be bound, a term or a thread can't be started, or an allocation failed. The
+/// histories of all terms are those of one registry.
 pub(crate) fn host_tenants<'h, R: System>(
     rt: &R,
     alloc: Global,
     words: HostWords<'h>,
     folder: &'h Folder,
     outlet: Arc<Outlet>,
-) -> Result<ServerEnd, ServerEnd> {
+) -> Result<ServerEnd, ServerFault> {
     host_named::<Brand, R>(rt, alloc, OpenedRegistry::new(), words, folder, outlet)
 }
 
@@ -59,11 +59,11 @@ fn host_named<'h, J: Naming + Send + Sync, R: System>(
     words: HostWords<'h>,
     folder: &'h Folder,
     outlet: Arc<Outlet>,
-) -> Result<ServerEnd, ServerEnd>
+) -> Result<ServerEnd, ServerFault>
     requires { opened ≡ J.registry }
 {
     let Ok(connections) = u8::try_from(words.connections) else {
-        return Err(ServerEnd::Words);
+        return Err(ServerFault::Words);
     };
     let config = read_config(rt, alloc, words.config)?;
     let mut shelves = folder.prepare(rt, words.keep)?;
@@ -76,7 +76,7 @@ fn host_named<'h, J: Naming + Send + Sync, R: System>(
     let desks = new_desks(alloc, connections)?;
     let places = new_places(alloc, config.workers())?;
     let progress = Progress::new();
-    let site = Site {
+    let context = HostContext {
         host: &host,
         desks: desks.as_slice(),
         places: places.as_slice(),
@@ -86,18 +86,18 @@ fn host_named<'h, J: Naming + Send + Sync, R: System>(
         words,
         connections,
     };
-    site.say(rt, alloc, Event::Start);
-    recover_all(rt, alloc, site, &mut shelves)?;
-    remove_old_notes(rt, site, &shelves)?;
+    context.say(rt, alloc, Event::Start);
+    recover_all(rt, alloc, context, &mut shelves)?;
+    remove_old_notes(rt, context, &shelves)?;
     let access = Access {
         mode: words.mode,
         group: words.group,
     };
     let endpoint = Endpoint::bind(rt, alloc, folder.socket.as_str(), access)?;
     let mut keeper = Keeper::new(alloc, config.workers(), Filing::new(alloc, shelves));
-    keeper.adopt(rt, alloc, site, &config)?;
-    keeper.open_all(rt, alloc, site)?;
-    let end = serve(rt, alloc, site, &endpoint, keeper);
+    keeper.adopt(rt, alloc, context, &config)?;
+    keeper.open_all(rt, alloc, context)?;
+    let end = serve(rt, alloc, context, &endpoint, keeper);
     endpoint.remove(rt);
     end
 }
@@ -106,14 +106,14 @@ fn host_named<'h, J: Naming + Send + Sync, R: System>(
 fn serve<'h, J: Naming + Send + Sync, R: System>(
     rt: &R,
     alloc: Global,
-    site: Site<'h, J>,
+    context: HostContext<'h, J>,
     endpoint: &Endpoint<'_>,
     keeper: Keeper<J>,
-) -> Result<ServerEnd, ServerEnd> {
-    let (watch, waker) = match Watch::new(rt, alloc, endpoint, site.connections) {
+) -> Result<ServerEnd, ServerFault> {
+    let (watch, waker) = match Watch::new(rt, alloc, endpoint, context.connections) {
         Ok(made) => made,
-        Err(fault) if fault.kind() == ErrorKind::OutOfMemory => return Err(ServerEnd::Memory),
-        Err(_) => return Err(ServerEnd::Device),
+        Err(fault) if fault.kind() == ErrorKind::OutOfMemory => return Err(ServerFault::Memory),
+        Err(_) => return Err(ServerFault::Device),
     };
     // Whoever waits for it must not wait in vain: without memory for it the host does not start.
     let listening = String::from_str(alloc, "listening")?;
@@ -125,21 +125,23 @@ fn serve<'h, J: Naming + Send + Sync, R: System>(
         move |scope|
             requires { IsSend J.row }
         {
-            let started = start_threads(scope, rt, alloc, site, wakes);
-            let accepting = Reception::new(watch, site.desks);
+            let started = start_threads(scope, rt, alloc, context, wakes);
+            let accepting = Reception::new(watch, context.desks);
             let is_writing = scope
                 .spawn(move || write_histories(rt, alloc, writes))
                 .is_ok();
-            let is_journaling = scope.spawn(move || keep_journals(rt, alloc, site)).is_ok();
+            let is_journaling = scope
+                .spawn(move || keep_journals(rt, alloc, context))
+                .is_ok();
             let is_accepting = scope
-                .spawn(move || accept_all(rt, alloc, site, endpoint, accepting))
+                .spawn(move || accept_all(rt, alloc, context, endpoint, accepting))
                 .is_ok();
             let end = if started && is_writing && is_journaling && is_accepting {
-                Ok(keep_hosting(rt, alloc, site, endpoint, keeper, writes, listening))
+                keep_hosting(rt, alloc, context, endpoint, keeper, writes, listening)
             } else {
-                Err(ServerEnd::Device)
+                Err(ServerFault::Device)
             };
-            end_threads(rt, site, writes);
+            end_threads(rt, context, writes);
             end
         },
     )
@@ -154,15 +156,21 @@ fn start_threads<
     J: Naming + Send + Sync,
     E: 's,
     R: Threads + Wait + Clock + Sync,
->(scope: &Scope<'s, E>, rt: &'r R, alloc: Global, site: Site<'h, J>, waker: &'w Waker) -> bool {
-    for desk in site.desks {
-        let session = move || attend_desk(rt, alloc, site.host, desk, waker);
+>(
+    scope: &Scope<'s, E>,
+    rt: &'r R,
+    alloc: Global,
+    context: HostContext<'h, J>,
+    waker: &'w Waker,
+) -> bool {
+    for desk in context.desks {
+        let session = move || attend_desk(rt, alloc, context.host, desk, waker);
         if scope.spawn(session).is_err() {
             return false;
         }
     }
-    for place in site.places {
-        let work = move || site.host.work(rt, place);
+    for place in context.places {
+        let work = move || context.host.work(rt, place);
         if scope.spawn(work).is_err() {
             return false;
         }
@@ -171,11 +179,11 @@ fn start_threads<
 }
 
 /// Lets all threads end.
-fn end_threads<J: Naming, R: Wait>(rt: &R, site: Site<'_, J>, writer: &Writer) {
-    close_desks(rt, site);
-    site.host.stop_workers(rt);
-    site.progress.is_stopping.store(true, Ordering::SeqCst);
-    site.progress.is_over.store(true, Ordering::SeqCst);
+fn end_threads<J: Naming, R: Wait>(rt: &R, context: HostContext<'_, J>, writer: &Writer) {
+    close_desks(rt, context);
+    context.host.stop_workers(rt);
+    context.progress.is_stopping.store(true, Ordering::SeqCst);
+    context.progress.is_over.store(true, Ordering::SeqCst);
     writer.close(rt);
 }
 
@@ -183,28 +191,28 @@ fn end_threads<J: Naming, R: Wait>(rt: &R, site: Site<'_, J>, writer: &Writer) {
 fn keep_hosting<J: Naming + Send + Sync, R: System>(
     rt: &R,
     alloc: Global,
-    site: Site<'_, J>,
+    context: HostContext<'_, J>,
     endpoint: &Endpoint<'_>,
     keeper: Keeper<J>,
     writer: &Writer,
     listening: String,
-) -> ServerEnd {
+) -> Result<ServerEnd, ServerFault> {
     let mut keeper = keeper;
     let mut shower = Shower::new(rt);
-    shower.show_now(rt, alloc, site, &keeper);
-    site.outlet.print(rt, Some(listening));
+    shower.show_now(rt, alloc, context, &keeper);
+    context.outlet.print(rt, Some(listening));
     for _turn in rt.forever() {
         if !endpoint.is_there(rt) {
             break;
         }
-        keeper.look_for_orders(rt, alloc, site);
-        keeper.tend_all(rt, alloc, site, writer);
-        shower.show(rt, alloc, site, &keeper);
+        keeper.look_for_orders(rt, alloc, context);
+        keeper.tend_all(rt, alloc, context, writer);
+        shower.show(rt, alloc, context, &keeper);
         thread::sleep(rt, Duration::from_millis(TICK));
     }
-    site.say(rt, alloc, Event::Stop);
-    finish(rt, alloc, site, &mut keeper, writer);
-    shower.show_now(rt, alloc, site, &keeper);
+    context.say(rt, alloc, Event::Stop);
+    finish(rt, alloc, context, &mut keeper, writer);
+    shower.show_now(rt, alloc, context, &keeper);
     end_of(keeper.filing().faults())
 }
 
@@ -212,29 +220,29 @@ fn keep_hosting<J: Naming + Send + Sync, R: System>(
 fn finish<J: Naming + Send + Sync, R: System>(
     rt: &R,
     alloc: Global,
-    site: Site<'_, J>,
+    context: HostContext<'_, J>,
     keeper: &mut Keeper<J>,
     writer: &Writer,
 ) {
-    site.progress.is_stopping.store(true, Ordering::SeqCst);
-    shut_desks(rt, site, Shutdown::Read);
-    keeper.leave_all(rt, site);
-    let most = u64::from(site.words.finish).saturating_mul(1000);
+    context.progress.is_stopping.store(true, Ordering::SeqCst);
+    shut_desks(rt, context, Shutdown::Read);
+    keeper.leave_all(rt, context);
+    let most = u64::from(context.words.finish).saturating_mul(1000);
     let until = millis(rt).saturating_add(most);
     for _turn in rt.forever() {
-        keeper.close_terms(rt, alloc, site, writer, false);
-        if keeper.is_over(rt, site, writer) || millis(rt) >= until {
+        keeper.close_terms(rt, alloc, context, writer, false);
+        if keeper.is_over(rt, context, writer) || millis(rt) >= until {
             break;
         }
         thread::sleep(rt, Duration::from_millis(TICK));
     }
-    site.host.stop_waits(rt);
-    wait_for_sessions(rt, site);
-    close_desks(rt, site);
-    site.host.stop_workers(rt);
+    context.host.stop_waits(rt);
+    wait_for_sessions(rt, context);
+    close_desks(rt, context);
+    context.host.stop_workers(rt);
     for _turn in rt.forever() {
-        keeper.close_terms(rt, alloc, site, writer, true);
-        if keeper.is_over(rt, site, writer) {
+        keeper.close_terms(rt, alloc, context, writer, true);
+        if keeper.is_over(rt, context, writer) {
             break;
         }
         thread::sleep(rt, Duration::from_millis(TICK));
@@ -242,27 +250,27 @@ fn finish<J: Naming + Send + Sync, R: System>(
 }
 
 /// Waits until all sessions have ended. Those that have not after a while are cut off.
-fn wait_for_sessions<J: Naming, R: Wait + Clock>(rt: &R, site: Site<'_, J>) {
+fn wait_for_sessions<J: Naming, R: Wait + Clock>(rt: &R, context: HostContext<'_, J>) {
     let until = millis(rt).saturating_add(LAST_REPLIES);
     for _turn in rt.forever() {
-        if site.connected(rt) == 0 {
+        if context.connected(rt) == 0 {
             return;
         }
         if millis(rt) >= until {
-            shut_desks(rt, site, Shutdown::Both);
+            shut_desks(rt, context, Shutdown::Both);
         }
         thread::sleep(rt, Duration::from_millis(TICK));
     }
 }
 
-fn shut_desks<J: Naming, R: Wait>(rt: &R, site: Site<'_, J>, how: Shutdown) {
-    for desk in site.desks {
+fn shut_desks<J: Naming, R: Wait>(rt: &R, context: HostContext<'_, J>, how: Shutdown) {
+    for desk in context.desks {
         desk.shut(rt, how);
     }
 }
 
-fn close_desks<J: Naming, R: Wait>(rt: &R, site: Site<'_, J>) {
-    for desk in site.desks {
+fn close_desks<J: Naming, R: Wait>(rt: &R, context: HostContext<'_, J>) {
+    for desk in context.desks {
         desk.close(rt);
     }
 }

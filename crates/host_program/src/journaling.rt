@@ -1,13 +1,13 @@
 // The journals of terms: how they begin, and the thread that writes what no reply waits for.
 
 use crate::clocks::millis;
-use crate::ends::part_end;
+use crate::context::HostContext;
+use crate::ends::part_fault;
 use crate::files::sync_folder;
-use crate::site::Site;
 use host_terms::Journal;
 use job_language::TenantConfig;
 use program_words::Durable;
-use server_io::ServerEnd;
+use server_io::ServerFault;
 use std::alloc::Global;
 use std::fs::{File, Files, OpenOptions};
 use std::os::unix::fs::OpenOptionsExt;
@@ -29,46 +29,50 @@ const TICK: u64 = 50;
 pub(crate) fn begin_journal<J: Naming, R: Files<File = File>>(
     rt: &R,
     alloc: Global,
-    site: Site<'_, J>,
+    context: HostContext<'_, J>,
     span: Span,
     tenant: &TenantConfig,
-) -> Result<Option<Journal>, ServerEnd> {
-    let durable = site.words.durable;
+) -> Result<Option<Journal>, ServerFault> {
+    let durable = context.words.durable;
     if durable == Durable::Off {
         return Ok(None);
     }
     let named = tenant.tenant().name;
-    let folder = site.folder;
+    let folder = context.folder;
     let path = folder.journal(alloc, named.as_str(), span.number, span.base)?;
     let mut options = OpenOptions::new();
     options.write(true).create(true).truncate(true).mode(0o600);
     let Ok(file) = options.open(rt, path.as_str()) else {
-        return Err(ServerEnd::Device);
+        return Err(ServerFault::Device);
     };
     let journal = match Journal::begin(alloc, file, tenant, durable == Durable::Reply) {
         Ok(journal) => journal,
-        Err(fault) => return Err(part_end(fault)),
+        Err(fault) => return Err(part_fault(fault)),
     };
     if durable != Durable::Write && sync_folder(rt, folder.journals.as_str()).is_err() {
-        return Err(ServerEnd::Device);
+        return Err(ServerFault::Device);
     }
     Ok(Some(journal))
 }
 
 /// Brings all histories to their journals each second, and these to the disk if that is wanted, until the host is over.
-pub(crate) fn keep_journals<J: Naming, R: Wait + Clock>(rt: &R, alloc: Global, site: Site<'_, J>) {
-    let durable = site.words.durable;
+pub(crate) fn keep_journals<J: Naming, R: Wait + Clock>(
+    rt: &R,
+    alloc: Global,
+    context: HostContext<'_, J>,
+) {
+    let durable = context.words.durable;
     if durable == Durable::Off {
         return;
     }
     let mut last = millis(rt);
     for _turn in rt.forever() {
-        if site.progress.is_over.load(Ordering::SeqCst) {
+        if context.progress.is_over.load(Ordering::SeqCst) {
             return;
         }
         if millis(rt).saturating_sub(last) >= SECOND {
             last = millis(rt);
-            site.host.catch_up(rt, alloc, durable != Durable::Write);
+            context.host.catch_up(rt, alloc, durable != Durable::Write);
         }
         thread::sleep(rt, Duration::from_millis(TICK));
     }

@@ -6,8 +6,8 @@ mod opening;
 mod orders;
 
 use crate::clocks::millis;
+use crate::context::HostContext;
 use crate::filing::Filing;
-use crate::site::Site;
 use crate::system::System;
 use crate::writing::Writer;
 use host_status::{Event, Fault};
@@ -18,8 +18,8 @@ use std::time::Clock;
 use tenant_book::Naming;
 use term_life::Why;
 
-/// How many terms of a tenant may be there at once, whether they serve, finish, or wait to be written. Each has its history
-/// in memory.
+/// How many terms of a tenant may be there at once, whether they serve, finish, or wait to be written. Each has its
+/// history in memory.
 const MOST_TERMS: usize = 8;
 
 /// What the thread keeps of a tenant.
@@ -45,7 +45,6 @@ struct Parting<J: Naming> {
 }
 
 /// What the thread keeps.
-#[derive(Drop)]
 pub(crate) struct Keeper<J: Naming> {
     /// How many workers the host has.
     workers: usize,
@@ -57,6 +56,20 @@ pub(crate) struct Keeper<J: Naming> {
     is_obeyed: bool,
     /// When orders were last looked for, in milliseconds of the monotonic clock.
     looked: u64,
+}
+
+impl<J: Naming> Drop for Keeper<J> {
+    // An owner drops it in one call, not part by part at each of its ways out.
+    fn drop(self) {
+        let Keeper {
+            workers: _workers,
+            tended: _tended,
+            parting: _parting,
+            filing: _filing,
+            is_obeyed: _is_obeyed,
+            looked: _looked,
+        } = self;
+    }
 }
 
 impl<J: Naming> Keeper<J> {
@@ -75,35 +88,35 @@ impl<J: Naming> Keeper<J> {
         &self.filing
     }
 
-    /// Looks after each tenant once: terms that are used are left, terms that are wished for are opened, and those that are
-    /// done are closed.
+    /// Looks after each tenant once: terms that are used are left, terms that are wished for are opened, and those that
+    /// are done are closed.
     pub(crate) fn tend_all<R: System>(
         &mut self,
         rt: &R,
         alloc: Global,
-        site: Site<'_, J>,
+        context: HostContext<'_, J>,
         writer: &Writer,
     ) {
         for tenant in 0..self.tended.len() {
-            if let Some(tenancy) = site.host.tenancy(rt, tenant) {
-                self.tend(rt, alloc, site, tenant, &tenancy);
+            if let Some(tenancy) = context.host.tenancy(rt, tenant) {
+                self.tend(rt, alloc, context, tenant, &tenancy);
             }
         }
-        self.close_terms(rt, alloc, site, writer, false);
+        self.close_terms(rt, alloc, context, writer, false);
     }
 
     fn tend<R: System>(
         &mut self,
         rt: &R,
         alloc: Global,
-        site: Site<'_, J>,
+        context: HostContext<'_, J>,
         tenant: usize,
         tenancy: &Tenancy<J>,
     ) {
-        wish_if_used(rt, site, tenancy);
+        wish_if_used(rt, context, tenancy);
         if tenancy.take_note_failure(rt) {
             let named = tenancy.name();
-            site.say_fault(rt, alloc, Fault::Results, Some(named.as_str()), None);
+            context.say_fault(rt, alloc, Fault::Results, Some(named.as_str()), None);
         }
         let Some(why) = tenancy.wished(rt) else {
             return;
@@ -122,20 +135,20 @@ impl<J: Naming> Keeper<J> {
             tended.is_held = true;
             tenancy.hold(rt);
             if is_new {
-                say_waiting(rt, alloc, site, tenancy, why);
+                say_waiting(rt, alloc, context, tenancy, why);
             }
             // Who waits for it waits for a term to be closed.
             return;
         }
         tended.is_held = false;
-        self.rotate(rt, alloc, site, tenant, tenancy, why);
+        self.rotate(rt, alloc, context, tenant, tenancy, why);
     }
 
     /// Lets all terms take no new jobs, since the host stops.
-    pub(crate) fn leave_all<R: Wait>(&mut self, rt: &R, site: Site<'_, J>) {
+    pub(crate) fn leave_all<R: Wait>(&mut self, rt: &R, context: HostContext<'_, J>) {
         for (tenant, tended) in self.tended.iter_mut().enumerate() {
             tended.is_configured = false;
-            if let Some(tenancy) = site.host.tenancy(rt, tenant) {
+            if let Some(tenancy) = context.host.tenancy(rt, tenant) {
                 tenancy.leave(rt, Why::Stop);
                 tenancy.refuse(rt);
             }
@@ -143,9 +156,14 @@ impl<J: Naming> Keeper<J> {
     }
 
     /// Whether each term is closed and its files are written.
-    pub(crate) fn is_over<R: Wait>(&self, rt: &R, site: Site<'_, J>, writer: &Writer) -> bool {
+    pub(crate) fn is_over<R: Wait>(
+        &self,
+        rt: &R,
+        context: HostContext<'_, J>,
+        writer: &Writer,
+    ) -> bool {
         for tenant in 0..self.tended.len() {
-            if let Some(tenancy) = site.host.tenancy(rt, tenant) {
+            if let Some(tenancy) = context.host.tenancy(rt, tenant) {
                 if tenancy.count(rt) > 0 {
                     return false;
                 }
@@ -155,13 +173,14 @@ impl<J: Naming> Keeper<J> {
     }
 }
 
-/// Wishes for the next term of a tenant if the journal of the one that serves is broken, or its history is used that far.
-fn wish_if_used<J: Naming, R: Wait>(rt: &R, site: Site<'_, J>, tenancy: &Tenancy<J>) {
+/// Wishes for the next term of a tenant if the journal of the one that serves is broken, or its history is used that
+/// far.
+fn wish_if_used<J: Naming, R: Wait>(rt: &R, context: HostContext<'_, J>, tenancy: &Tenancy<J>) {
     if let Some(term) = &tenancy.serving(rt) {
         if term.is_broken() {
             tenancy.wish(rt, Why::Journal);
         }
-        if term.is_used(rt, site.words.rotate_at) {
+        if term.is_used(rt, context.words.rotate_at) {
             tenancy.wish(rt, Why::History);
         }
     }
@@ -171,12 +190,12 @@ fn wish_if_used<J: Naming, R: Wait>(rt: &R, site: Site<'_, J>, tenancy: &Tenancy
 fn say_waiting<J: Naming, R: Wait + Clock>(
     rt: &R,
     alloc: Global,
-    site: Site<'_, J>,
+    context: HostContext<'_, J>,
     tenancy: &Tenancy<J>,
     why: Why,
 ) {
     if let Some(term) = tenancy.serving(rt) {
-        site.say(
+        context.say(
             rt,
             alloc,
             Event::Waiting {

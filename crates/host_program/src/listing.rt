@@ -1,26 +1,18 @@
 // The names in the folders of a host.
 
 use job_language::TenantName;
-use server_io::ServerEnd;
+use server_io::ServerFault;
 use std::fs::Files;
 use std::{fs, io};
-
-/// How a host ends, for a fault of a file.
-pub(crate) fn end_of(fault: &io::Error) -> ServerEnd {
-    match fault.kind() {
-        io::ErrorKind::OutOfMemory => ServerEnd::Memory,
-        _ => ServerEnd::Device,
-    }
-}
 
 /// The paths of the files in a folder whose names are texts.
 pub(crate) fn listed<R: Files + AllocGlobal + Clone + Drop>(
     rt: &R,
     folder: &str,
-) -> Result<Vec<String>, ServerEnd> {
+) -> Result<Vec<String>, ServerFault> {
     match list(rt, folder) {
         Ok(paths) => Ok(paths),
-        Err(fault) => Err(end_of(&fault)),
+        Err(fault) => Err(ServerFault::of_system(fault)),
     }
 }
 

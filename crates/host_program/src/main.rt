@@ -4,6 +4,7 @@
 mod accepting;
 mod clocks;
 mod configs;
+mod context;
 mod ends;
 mod files;
 mod filing;
@@ -19,7 +20,6 @@ mod results;
 mod shelves;
 mod shower;
 mod showing;
-mod site;
 mod system;
 mod writing;
 
@@ -30,7 +30,7 @@ use crate::system::System;
 use host_terms::{Outlet, write_printed, write_reported};
 use program_version::{asks_version, print_version};
 use program_words::{HostWords, read_host_words};
-use server_io::ServerEnd;
+use server_io::{ServerEnd, ServerFault, exit_status};
 use std::alloc::{AllocError, Global};
 use std::env::Env;
 use std::fs::{File, OpenOptions};
@@ -48,17 +48,17 @@ fn main(rt: HostRuntime) -> ExitCode {
     let alloc = rt.alloc();
     let (outlet, printed, reported) = match new_outlet(alloc) {
         Ok(handles) => handles,
-        Err(_) => return unheard(&rt, ServerEnd::Memory),
+        Err(_) => return unheard(&rt, ServerFault::Memory),
     };
     // These write as long as the process lives, so that nobody else waits for whoever reads the lines.
     let printer = thread::spawn(&rt, move || write_printed(&rt, alloc, &printed));
     let reporter = thread::spawn(&rt, move || write_reported(&rt, alloc, &reported));
     if printer.is_err() || reporter.is_err() {
-        return unheard(&rt, ServerEnd::Device);
+        return unheard(&rt, ServerFault::Device);
     }
     let end = run(&rt, &outlet);
     report_end(&rt, &outlet, end);
-    ExitCode::from(end.status())
+    ExitCode::from(exit_status(end))
 }
 
 /// Three handles on an outlet: the host's, and those of the threads that write.
@@ -70,31 +70,33 @@ fn new_outlet(alloc: Global) -> Result<(Arc<Outlet>, Arc<Outlet>, Arc<Outlet>), 
 }
 
 /// Ends a host that has no outlet, for that reason.
-fn unheard<R: Eprint>(rt: &R, end: ServerEnd) -> ExitCode {
-    if let Some(fault) = fault_text(end) {
-        // The process' status says the same even if standard error takes nothing.
-        let _ = rt.eprintln(fault);
-    }
-    ExitCode::from(end.status())
+fn unheard<R: Eprint>(rt: &R, fault: ServerFault) -> ExitCode {
+    // The process' status says the same even if standard error takes nothing.
+    let _ = rt.eprintln(fault_text(fault));
+    ExitCode::from(exit_status(Err(fault)))
 }
 
 /// Hosts the tenants that the words name, and tells how that ended.
-fn run<R: System + Env + Print>(rt: &R, outlet: &Arc<Outlet>) -> ServerEnd {
+fn run<R: System + Env + Print>(rt: &R, outlet: &Arc<Outlet>) -> Result<ServerEnd, ServerFault> {
     match words_of(rt) {
-        Ok(words) => end_of(rt, words.as_slice(), outlet),
+        Ok(words) => host_words(rt, words.as_slice(), outlet),
         Err(fault) => match fault.kind() {
             // A word that is no text.
-            ErrorKind::InvalidData => ServerEnd::Words,
-            _ => ServerEnd::Memory,
+            ErrorKind::InvalidData => Err(ServerFault::Words),
+            _ => Err(ServerFault::Memory),
         },
     }
 }
 
 /// Reports how the host ended, and lets what it reported be written.
-fn report_end<R: Wait + Clock + AllocGlobal>(rt: &R, outlet: &Outlet, end: ServerEnd) {
-    if let Some(fault) = fault_text(end) {
+fn report_end<R: Wait + Clock + AllocGlobal>(
+    rt: &R,
+    outlet: &Outlet,
+    end: Result<ServerEnd, ServerFault>,
+) {
+    if let Err(fault) = end {
         // The process' status says the same.
-        outlet.report(rt, String::from_str(rt.alloc(), fault).ok());
+        outlet.report(rt, String::from_str(rt.alloc(), fault_text(fault)).ok());
     }
     outlet.drain(rt, Duration::from_millis(LAST_WORDS));
 }
@@ -108,29 +110,29 @@ fn words_of<R: Env + AllocGlobal>(rt: &R) -> io::Result<Vec<String>> {
     Ok(words)
 }
 
-/// How the host ends that is called with these words.
-fn end_of<R: System + Print>(rt: &R, words: &[String], outlet: &Arc<Outlet>) -> ServerEnd {
+/// Does what the words say that the program was called with.
+fn host_words<R: System + Print>(
+    rt: &R,
+    words: &[String],
+    outlet: &Arc<Outlet>,
+) -> Result<ServerEnd, ServerFault> {
     let mut texts = Vec::new(rt.alloc());
     for word in words {
         if texts.push(word.as_str()).is_err() {
-            return ServerEnd::Memory;
+            return Err(ServerFault::Memory);
         }
     }
     if let [_name, words @ ..] = texts.as_slice()
         && asks_version(words)
     {
         return match print_version(rt, "arena-host") {
-            Ok(()) => ServerEnd::Done,
-            Err(_) => ServerEnd::Device,
+            Ok(()) => Ok(ServerEnd::Done),
+            Err(_) => Err(ServerFault::Device),
         };
     }
-    let words = match read_host_words(rt.alloc(), texts.as_slice()) {
-        Ok(words) => words,
-        Err(fault) => return words_fault(fault),
-    };
-    match host_alone(rt, words, outlet) {
-        Ok(end) => end,
-        Err(end) => end,
+    match read_host_words(rt.alloc(), texts.as_slice()) {
+        Ok(words) => host_alone(rt, words, outlet),
+        Err(fault) => Err(words_fault(fault)),
     }
 }
 
@@ -139,7 +141,7 @@ fn host_alone<R: System>(
     rt: &R,
     words: HostWords<'_>,
     outlet: &Arc<Outlet>,
-) -> Result<ServerEnd, ServerEnd> {
+) -> Result<ServerEnd, ServerFault> {
     let alloc = rt.alloc();
     let folder = Folder::new(alloc, words.run)?;
     let Ok(lock) = OpenOptions::new()
@@ -148,10 +150,10 @@ fn host_alone<R: System>(
         .mode(0o600)
         .open(rt, folder.lock.as_str())
     else {
-        return Err(ServerEnd::Device);
+        return Err(ServerFault::Device);
     };
     if !is_locked(rt, &lock) {
-        return Err(ServerEnd::Device);
+        return Err(ServerFault::Device);
     }
     let end = host_tenants(rt, alloc, words, &folder, Arc::try_clone(outlet)?);
     // Another host may work there from now on.

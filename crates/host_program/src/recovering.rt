@@ -1,19 +1,19 @@
 // Journals that a host left become histories and outcomes: each job that was acknowledged gets its outcome.
 
 use crate::clocks::millis;
-use crate::ends::dump_end;
+use crate::context::HostContext;
+use crate::ends::dump_fault;
 use crate::files::{bytes_of, put_text};
 use crate::folders::LeftJournal;
 use crate::results::outcomes_text;
 use crate::shelves::Shelves;
-use crate::site::Site;
 use crate::system::System;
 use dump_files::dump_history;
 use host_status::{Event, Fault};
 use job_language::{Entry, Status, TenantConfig};
 use job_outcomes::JobOutcomes;
 use part_lines::{PartRead, read_part};
-use server_io::ServerEnd;
+use server_io::ServerFault;
 use std::alloc::{AllocError, Global};
 use std::fs;
 use std::fs::{File, Files};
@@ -33,16 +33,16 @@ struct Finished {
     is_torn_wrong: bool,
 }
 
-/// Finishes each journal that a host left, and writes its history and outcomes. If the host is killed meanwhile, it can be
-/// done again: a journal is removed once both are on the disk, and a history that is there is taken in its place.
+/// Finishes each journal that a host left, and writes its history and outcomes. If the host is killed meanwhile, it can
+/// be done again: a journal is removed once both are on the disk, and a history that is there is taken in its place.
 pub(crate) fn recover_all<J: Naming + Send + Sync, R: System>(
     rt: &R,
     alloc: Global,
-    site: Site<'_, J>,
+    context: HostContext<'_, J>,
     shelves: &mut Shelves,
-) -> Result<(), ServerEnd> {
-    for journal in &site.folder.left_journals(rt)? {
-        recover(rt, alloc, site, shelves, journal)?;
+) -> Result<(), ServerFault> {
+    for journal in &context.folder.left_journals(rt)? {
+        recover(rt, alloc, context, shelves, journal)?;
     }
     Ok(())
 }
@@ -50,14 +50,14 @@ pub(crate) fn recover_all<J: Naming + Send + Sync, R: System>(
 fn recover<J: Naming, R: Files<File = File> + Wait + Clock>(
     rt: &R,
     alloc: Global,
-    site: Site<'_, J>,
+    context: HostContext<'_, J>,
     shelves: &mut Shelves,
     journal: &LeftJournal,
-) -> Result<(), ServerEnd> {
+) -> Result<(), ServerFault> {
     let began = millis(rt);
     let name = journal.name.as_str();
     let term = journal.term;
-    let dump = site.folder.dump(alloc, name, term)?;
+    let dump = context.folder.dump(alloc, name, term)?;
     let is_dumped = shelves.has(name, term);
     let source = if is_dumped {
         dump.as_str()
@@ -65,39 +65,40 @@ fn recover<J: Naming, R: Files<File = File> + Wait + Clock>(
         journal.path.as_str()
     };
     let Some(finished) = finished_of(rt, alloc, source)? else {
-        return pass_over(rt, alloc, site, journal);
+        return pass_over(rt, alloc, context, journal);
     };
     if finished.is_torn_wrong {
-        site.say_fault(rt, alloc, Fault::Journal, Some(name), Some(term));
+        context.say_fault(rt, alloc, Fault::Journal, Some(name), Some(term));
     }
     if !is_dumped {
         put_history(rt, alloc, dump.as_str(), &finished)?;
     }
     let outcomes = outcomes_of(alloc, &finished.replay, journal.base)?;
-    put_outcomes(rt, alloc, site, journal, outcomes.as_slice())?;
-    site.folder
-        .shelve(rt, alloc, shelves, name, term, site.words.keep)?;
+    put_outcomes(rt, alloc, context, journal, outcomes.as_slice())?;
+    context
+        .folder
+        .shelve(rt, alloc, shelves, name, term, context.words.keep)?;
     // If it can't be removed, it is done again at the next start.
     let _ = fs::remove_file(rt, journal.path.as_str());
-    say_recovered(rt, alloc, site, journal, outcomes.as_slice(), began);
+    say_recovered(rt, alloc, context, journal, outcomes.as_slice(), began);
     Ok(())
 }
 
-/// Reports a file that has the name of a journal and names no tenant, which stays. One without a whole line is removed: the
-/// host was killed before its term served, and nothing was acknowledged by it. `Device` if it can't be read.
+/// Reports a file that has the name of a journal and names no tenant, which stays. One without a whole line is removed:
+/// the host was killed before its term served, and nothing was acknowledged by it. `Device` if it can't be read.
 fn pass_over<J: Naming, R: Files<File = File> + Wait + Clock>(
     rt: &R,
     alloc: Global,
-    site: Site<'_, J>,
+    context: HostContext<'_, J>,
     journal: &LeftJournal,
-) -> Result<(), ServerEnd> {
+) -> Result<(), ServerFault> {
     let path = journal.path.as_str();
     let Ok(bytes) = bytes_of(rt, alloc, path) else {
-        return Err(ServerEnd::Device);
+        return Err(ServerFault::Device);
     };
     if bytes.contains(&b'\n') {
         let name = journal.name.as_str();
-        site.say_fault(rt, alloc, Fault::Journal, Some(name), Some(journal.term));
+        context.say_fault(rt, alloc, Fault::Journal, Some(name), Some(journal.term));
     } else {
         // If it can't be removed, it is passed over at the next start.
         let _ = fs::remove_file(rt, path);
@@ -109,12 +110,12 @@ fn pass_over<J: Naming, R: Files<File = File> + Wait + Clock>(
 fn say_recovered<J: Naming, R: Wait + Clock>(
     rt: &R,
     alloc: Global,
-    site: Site<'_, J>,
+    context: HostContext<'_, J>,
     journal: &LeftJournal,
     outcomes: &[Outcome],
     began: u64,
 ) {
-    site.say(
+    context.say(
         rt,
         alloc,
         Event::Recovered {
@@ -132,7 +133,7 @@ fn finished_of<R: Files<File = File>>(
     rt: &R,
     alloc: Global,
     path: &str,
-) -> Result<Option<Finished>, ServerEnd> {
+) -> Result<Option<Finished>, ServerFault> {
     let Some(part) = part_of(rt, alloc, path)? else {
         return Ok(None);
     };
@@ -173,10 +174,10 @@ fn part_of<R: Files<File = File>>(
     rt: &R,
     alloc: Global,
     path: &str,
-) -> Result<Option<PartRead>, ServerEnd> {
+) -> Result<Option<PartRead>, ServerFault> {
     match bytes_of(rt, alloc, path) {
         Ok(bytes) => Ok(read_part(alloc, bytes.as_slice())?),
-        Err(_) => Err(ServerEnd::Device),
+        Err(_) => Err(ServerFault::Device),
     }
 }
 
@@ -199,28 +200,28 @@ fn put_history<R: Files<File = File>>(
     alloc: Global,
     path: &str,
     finished: &Finished,
-) -> Result<(), ServerEnd> {
+) -> Result<(), ServerFault> {
     let history = finished.replay.history();
     match dump_history(rt, alloc, path, &finished.config, history) {
         Ok(_kept) => Ok(()),
-        Err(fault) => Err(dump_end(fault)),
+        Err(fault) => Err(dump_fault(fault)),
     }
 }
 
 fn put_outcomes<J: Naming, R: Files<File = File>>(
     rt: &R,
     alloc: Global,
-    site: Site<'_, J>,
+    context: HostContext<'_, J>,
     journal: &LeftJournal,
     outcomes: &[Outcome],
-) -> Result<(), ServerEnd> {
-    let path = site
+) -> Result<(), ServerFault> {
+    let path = context
         .folder
         .result(alloc, journal.name.as_str(), journal.term)?;
     let text = outcomes_text(alloc, outcomes)?;
-    let folder = site.folder.results.as_str();
+    let folder = context.folder.results.as_str();
     match put_text(rt, alloc, folder, path.as_str(), text.as_slice()) {
         Ok(()) => Ok(()),
-        Err(_) => Err(ServerEnd::Device),
+        Err(_) => Err(ServerFault::Device),
     }
 }

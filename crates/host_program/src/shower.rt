@@ -1,9 +1,9 @@
 // When the status of a host is written.
 
 use crate::clocks::{millis, seconds};
+use crate::context::HostContext;
 use crate::keeping::Keeper;
 use crate::showing::show;
-use crate::site::Site;
 use std::alloc::Global;
 use std::fs::{File, Files};
 use std::sync::Wait;
@@ -36,11 +36,11 @@ impl Shower {
         &mut self,
         rt: &R,
         alloc: Global,
-        site: Site<'_, J>,
+        context: HostContext<'_, J>,
         keeper: &Keeper<J>,
     ) {
         if millis(rt).saturating_sub(self.shown) >= SECOND {
-            self.show_now(rt, alloc, site, keeper);
+            self.show_now(rt, alloc, context, keeper);
         }
     }
 
@@ -49,11 +49,11 @@ impl Shower {
         &mut self,
         rt: &R,
         alloc: Global,
-        site: Site<'_, J>,
+        context: HostContext<'_, J>,
         keeper: &Keeper<J>,
     ) {
         self.shown = millis(rt);
         // The next one is written within a second.
-        let _ = show(rt, alloc, site, self.began, keeper.filing().closed());
+        let _ = show(rt, alloc, context, self.began, keeper.filing().closed());
     }
 }

@@ -1,7 +1,7 @@
 // What a host shows of itself.
 
 use crate::clocks::seconds;
-use crate::site::Site;
+use crate::context::HostContext;
 use host_status::{
     ClosedTerm, CutSoFar, HostStatus, Jobs, Rows, TenantStatus, TermStatus, Worker, status_line,
 };
@@ -27,22 +27,22 @@ const PAGE: u64 = 4096;
 pub(crate) fn show<J: Naming, R: Files<File = File> + Wait + Clock + AllocGlobal>(
     rt: &R,
     alloc: Global,
-    site: Site<'_, J>,
+    context: HostContext<'_, J>,
     began: u64,
     closed: &[ClosedTerm],
 ) -> io::Result<()> {
-    let workers = workers(rt, alloc, site)?;
-    let tenants = tenants(rt, alloc, site)?;
-    let terms = terms(rt, alloc, site)?;
-    let words = site.words;
+    let workers = workers(rt, alloc, context)?;
+    let tenants = tenants(rt, alloc, context)?;
+    let terms = terms(rt, alloc, context)?;
+    let words = context.words;
     let status = HostStatus {
         version: VERSION,
         time: seconds(rt),
         began,
         connections: words.connections,
-        connected: site.connected(rt),
-        served: site.progress.served.load(Ordering::SeqCst),
-        cut: cut_so_far(site),
+        connected: context.connected(rt),
+        served: context.progress.served.load(Ordering::SeqCst),
+        cut: cut_so_far(context),
         tenant_connections: words.tenant_connections,
         hello_seconds: words.hello_seconds,
         idle_seconds: words.idle_seconds,
@@ -59,17 +59,17 @@ pub(crate) fn show<J: Naming, R: Files<File = File> + Wait + Clock + AllocGlobal
     let Ok(line) = status_line(alloc, &status) else {
         return Err(io::Error::from(ErrorKind::OutOfMemory));
     };
-    let path = site.folder.status.as_str();
+    let path = context.folder.status.as_str();
     let part = format!(in alloc; "{path}.part")?;
     write_status(rt, part.as_str(), words, line.as_str())?;
     fs::rename(rt, part.as_str(), path)
 }
 
 /// How many connections were ended since the host began.
-fn cut_so_far<J: Naming>(site: Site<'_, J>) -> CutSoFar {
+fn cut_so_far<J: Naming>(context: HostContext<'_, J>) -> CutSoFar {
     CutSoFar {
-        hello: site.progress.cut_hello.load(Ordering::SeqCst),
-        idle: site.progress.cut_idle.load(Ordering::SeqCst),
+        hello: context.progress.cut_hello.load(Ordering::SeqCst),
+        idle: context.progress.cut_idle.load(Ordering::SeqCst),
     }
 }
 
@@ -77,11 +77,11 @@ fn cut_so_far<J: Naming>(site: Site<'_, J>) -> CutSoFar {
 fn workers<J: Naming, R: Wait>(
     rt: &R,
     alloc: Global,
-    site: Site<'_, J>,
+    context: HostContext<'_, J>,
 ) -> Result<Vec<Worker>, AllocError> {
-    let mut workers = Vec::with_capacity(alloc, site.places.len())?;
-    for (worker, place) in site.places.iter().enumerate() {
-        let (tenant, slot) = where_is(rt, alloc, site, place)?;
+    let mut workers = Vec::with_capacity(alloc, context.places.len())?;
+    for (worker, place) in context.places.iter().enumerate() {
+        let (tenant, slot) = where_is(rt, alloc, context, place)?;
         workers.push(Worker {
             worker,
             tenant,
@@ -95,13 +95,13 @@ fn workers<J: Naming, R: Wait>(
 fn where_is<J: Naming, R: Wait>(
     rt: &R,
     alloc: Global,
-    site: Site<'_, J>,
+    context: HostContext<'_, J>,
     place: &Place,
 ) -> Result<(Option<String>, Option<u8>), AllocError> {
     let Some((tenant, slot)) = place.seen() else {
         return Ok((None, None));
     };
-    match site.host.tenancy(rt, tenant as usize) {
+    match context.host.tenancy(rt, tenant as usize) {
         Some(tenancy) => Ok((Some(text_of(alloc, tenancy.name())?), Some(slot))),
         None => Ok((None, None)),
     }
@@ -115,11 +115,11 @@ fn text_of(alloc: Global, name: TenantName) -> Result<String, AllocError> {
 fn tenants<J: Naming, R: Wait>(
     rt: &R,
     alloc: Global,
-    site: Site<'_, J>,
+    context: HostContext<'_, J>,
 ) -> Result<Vec<TenantStatus>, AllocError> {
     let mut tenants = Vec::new(alloc);
-    for tenant in 0..site.host.count(rt) {
-        if let Some(tenancy) = site.host.tenancy(rt, tenant) {
+    for tenant in 0..context.host.count(rt) {
+        if let Some(tenancy) = context.host.tenancy(rt, tenant) {
             tenants.push(TenantStatus {
                 tenant: text_of(alloc, tenancy.name())?,
                 connected: tenancy.connected(),
@@ -134,11 +134,11 @@ fn tenants<J: Naming, R: Wait>(
 fn terms<J: Naming, R: Wait>(
     rt: &R,
     alloc: Global,
-    site: Site<'_, J>,
+    context: HostContext<'_, J>,
 ) -> Result<Vec<TermStatus>, AllocError> {
     let mut terms = Vec::new(alloc);
-    for tenant in 0..site.host.count(rt) {
-        if let Some(tenancy) = site.host.tenancy(rt, tenant) {
+    for tenant in 0..context.host.count(rt) {
+        if let Some(tenancy) = context.host.tenancy(rt, tenant) {
             add_terms(rt, alloc, &tenancy, &mut terms)?;
         }
     }

@@ -9,20 +9,19 @@ use std::sync::{Condvar, Mutex, Wait};
 /// A term that is closed, with the part of the file that its history is written to.
 #[derive(Drop)]
 pub(crate) struct Work {
-    pub(crate) left: Left,
+    pub(crate) unfiled: UnfiledTerm,
     pub(crate) part: Part<File>,
 }
 
 /// The same when the history was written, or could not be.
 #[derive(Drop)]
 pub(crate) struct Done {
-    pub(crate) left: Left,
+    pub(crate) unfiled: UnfiledTerm,
     pub(crate) written: Result<Whole<File>, Broken<File>>,
 }
 
 /// A term that is closed and whose files are to be written.
-#[derive(Drop)]
-pub(crate) struct Left {
+pub(crate) struct UnfiledTerm {
     /// The tenant's number at the host.
     pub(crate) tenant: usize,
     pub(crate) end: TermEnd,
@@ -36,19 +35,33 @@ pub(crate) struct Left {
     pub(crate) is_told: bool,
 }
 
+impl Drop for UnfiledTerm {
+    // An owner drops it in one call, not part by part at each of its ways out.
+    fn drop(self) {
+        let UnfiledTerm {
+            tenant: _tenant,
+            end: _end,
+            since: _since,
+            until: _until,
+            rest: _rest,
+            is_told: _is_told,
+        } = self;
+    }
+}
+
 impl Work {
     /// Writes the history.
     fn write(self, alloc: Global) -> Done {
-        let Work { left, part } = self;
-        let written = match &left.end.end {
-            Some(Ok(closed)) => part.fill(alloc, &left.end.tenant, closed.history.as_slice()),
+        let Work { unfiled, part } = self;
+        let written = match &unfiled.end.end {
+            Some(Ok(closed)) => part.fill(alloc, &unfiled.end.tenant, closed.history.as_slice()),
             // It has no history, and so no part is made for it.
             _ => Err(Broken {
                 part,
                 fault: dump_lines::DumpFault::Device,
             }),
         };
-        Done { left, written }
+        Done { unfiled, written }
     }
 }
 

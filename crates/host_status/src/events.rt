@@ -64,8 +64,8 @@ pub enum Event<'e> {
         term: u64,
         why: Why,
     },
-    /// A term that was left for that reason is closed, which took `ms` milliseconds with its files. `lost` of its jobs had no
-    /// outcome, and `left` more are to get theirs at the next start.
+    /// A term that was left for that reason is closed, which took `ms` milliseconds with its files. `lost` of its jobs
+    /// had no outcome, and `left` more are to get theirs at the next start.
     Closed {
         tenant: &'e str,
         term: u64,
@@ -74,8 +74,8 @@ pub enum Event<'e> {
         left: usize,
         ms: u64,
     },
-    /// A term whose journal was found at the start is finished and written, which took `ms` milliseconds. It has `jobs` jobs
-    /// that are neither retired nor released, `lost` of which have no outcome.
+    /// A term whose journal was found at the start is finished and written, which took `ms` milliseconds. It has `jobs`
+    /// jobs that are neither retired nor released, `lost` of which have no outcome.
     Recovered {
         tenant: &'e str,
         term: u64,
@@ -91,8 +91,8 @@ pub enum Event<'e> {
         #[serde(skip_serializing_if = "Option::is_none")]
         term: Option<u64>,
     },
-    /// The host has ended that many connections for doing nothing: `hello` had said no hello in time, and `idle` had asked
-    /// nothing.
+    /// The host has ended that many connections for doing nothing: `hello` had said no hello in time, and `idle` had
+    /// asked nothing.
     Cut {
         hello: u64,
         idle: u64,

@@ -1,5 +1,5 @@
 -- What a session of a host is answered, and by whom.
-use Rattle.std.specs.Prelude.{ℕ, ◌≡◌, ◌≢◌, ◌⊎◌, Bool, true, false, Option, Some, None, if◌then◌else◌}
+use Rattle.std.specs.Prelude.{ℕ, ◌≡◌, ◌≢◌, ◌⊎◌, Bool, true, false, List, Option, Some, None, if◌then◌else◌}
 use Rattle.job_language.specs.declared.answers.Reply.{Reply}
 use Rattle.job_language.specs.declared.answers.Reply.TheVariants.{Refused, Pending, Job}
 use Rattle.job_language.specs.declared.answers.Status.{Status}
@@ -10,7 +10,7 @@ use Rattle.job_language.specs.declared.requests.Request.{Request}
 use Rattle.job_language.specs.declared.requests.Request.TheVariants.{Poll, Collect, Take, Cancel, Release, Submit, Execute}
 use Rattle.nested_wait.specs.declared.attending.Attended.{Attended}
 use Rattle.nested_wait.specs.declared.attending.Attended.TheVariants.{Full}
-use Rattle.host_terms.specs.Bookings.{TermSeen, IsAt}
+use Rattle.host_terms.specs.Bookings.{TermSeen, IsAt, IsOf}
 use Rattle.server_house.specs.declared.owned.Told.{Told}
 use Rattle.server_house.specs.Owned.{AsksThere}
 use Rattle.server_house.specs.Posts.{ClientSeen}
@@ -80,17 +80,19 @@ pub record IsToldBy (term : TermSeen) (request : Request) (reply : Reply) : Type
   pub asked : IsAsked term request told ⊎ IsLooked term request told
   pub is : reply ≡ told_of term.span told
 
--- The request names a job. A tenant was asked about the number that the job has in a term whose job it is.
-pub record IsFromOwner (request : Request) (reply : Reply) : Type 0 where
+-- The request names a job. The tenant of that name was asked about the number that the job has in a term whose job it is.
+pub record IsFromOwner (name : List ℕ) (request : Request) (reply : Reply) : Type 0 where
   pub job : ℕ
   pub named : job_named request ≡ Some job
   pub term : TermSeen
+  pub of : IsOf name term
   pub owns : has_job job term.span ≡ true
   pub told : IsToldBy term (request_inside term.span request) reply
 
--- The tenant of some term was asked.
-pub record IsFromTerm (request : Request) (reply : Reply) : Type 0 where
+-- The tenant of that name was asked in one of its terms.
+pub record IsFromTerm (name : List ℕ) (request : Request) (reply : Reply) : Type 0 where
   pub term : TermSeen
+  pub of : IsOf name term
   pub told : IsToldBy term request reply
 
 -- What was kept of closed terms answers the request about a job.
@@ -106,17 +108,22 @@ pub record IsFromClosed (request : Request) (reply : Reply) : Type 0 where
 
 -- the host's own refusals
 abbrev pub IsRefusedHere : Reply → Type 0
-IsRefusedHere reply = (reply ≡ Refused NoTenant) ⊎ ((reply ≡ Refused NoMemory) ⊎ ((reply ≡ Refused HistoryFull) ⊎ (reply ≡ Refused Busy)))
+IsRefusedHere reply = (reply ≡ Refused NoMemory) ⊎ ((reply ≡ Refused HistoryFull) ⊎ (reply ≡ Refused Busy))
 
--- how the terms that serve one after another answer a request
-abbrev pub IsServed : Request → Reply → Type 0
-IsServed request reply = IsFromTerm request reply ⊎ IsRefusedHere reply
+-- how the terms that serve one after another answer a request to the tenant of that name
+abbrev pub IsServed : (name : List ℕ) → Request → Reply → Type 0
+IsServed name request reply = IsFromTerm name request reply ⊎ IsRefusedHere reply
 
--- The request names no job. Some term was asked, or it is refused.
-pub record IsFromServing (request : Request) (reply : Reply) : Type 0 where
+-- The request names no job. A term of the tenant of that name was asked, or it is refused.
+pub record IsFromServing (name : List ℕ) (request : Request) (reply : Reply) : Type 0 where
   pub named : job_named request ≡ None
-  pub served : IsServed request reply
+  pub served : IsServed name request reply
 
--- how a session of a host is answered
-abbrev pub IsAnswer : Request → Reply → Type 0
-IsAnswer request reply = IsFromOwner request reply ⊎ (IsFromServing request reply ⊎ (IsFromClosed request reply ⊎ IsRefusedHere reply))
+-- how a session of a host is answered that is bound to the tenant of that name
+abbrev pub IsAnswer : (name : List ℕ) → Request → Reply → Type 0
+IsAnswer name request reply = IsFromOwner name request reply ⊎ (IsFromServing name request reply ⊎ (IsFromClosed request reply ⊎ IsRefusedHere reply))
+
+-- how a session of a host is answered, by the name of the tenant that it is bound to, if it is
+abbrev pub IsAnswered : (name : Option (List ℕ)) → Request → Reply → Type 0
+IsAnswered None request reply = reply ≡ Refused NoTenant
+IsAnswered (Some name) request reply = IsAnswer name request reply

@@ -1,8 +1,11 @@
 // The connections that a tenant has.
-ghost use Rattle.std.specs.Prelude.{◌≡◌, ◌≤◌, ◌<◌, ◌+◌, MatchOption};
+ghost use Rattle.std.specs.Prelude.{◌≡◌, ◌≤◌, ◌<◌, ◌+◌, IfSome, MatchOption};
+ghost use Rattle.std.specs.Arc.{arc_value};
 
+use crate::tenancies::Tenancy;
 use std::sync::Arc;
 use std::sync::atomic::{AtomicU64, Ordering};
+use tenant_book::Naming;
 
 /// How many connections are bound to a tenant, and how many hellos were refused since it had as many as it may.
 #[derive(Drop)]
@@ -72,34 +75,33 @@ fn with_one_more(connected: u64, most: u64) -> Option<u64>
 }
 
 /// A connection's place at a tenant, which goes back when this is dropped, however the connection ended.
-pub(crate) struct Admission {
-    admissions: Arc<Admissions>,
-    /// The tenant's number at the host.
-    tenant: usize,
+pub(crate) struct Admission<J: Naming> {
+    tenancy: Arc<Tenancy<J>>,
 }
 
-impl Admission {
-    /// A place at the tenant of a number. None if it has `most` connections.
-    pub(crate) fn of(admissions: Arc<Admissions>, tenant: usize, most: u64) -> Option<Admission> {
-        if admissions.admit(most) {
-            Some(Admission { admissions, tenant })
+impl<J: Naming> Admission<J> {
+    /// A place at a tenant. None if it has `most` connections.
+    pub(crate) fn of(tenancy: Arc<Tenancy<J>>, most: u64) -> Option<Admission<J>>
+        ensures { IfSome result (λ a. arc_value a.tenancy ≡ arc_value tenancy) }
+    {
+        if tenancy.admissions().admit(most) {
+            Some(Admission { tenancy })
         } else {
             None
         }
     }
 
-    /// The number of the tenant.
-    pub(crate) fn tenant(&self) -> usize {
-        self.tenant
+    /// The tenant.
+    pub(crate) fn tenancy(&self) -> &Tenancy<J>
+        ensures { result.now ≡ arc_value self.now.tenancy }
+    {
+        &self.tenancy
     }
 }
 
-impl Drop for Admission {
+impl<J: Naming> Drop for Admission<J> {
     fn drop(self) {
-        self.admissions.leave();
-        let Admission {
-            admissions: _admissions,
-            tenant: _tenant,
-        } = self;
+        self.tenancy.admissions().leave();
+        let Admission { tenancy: _tenancy } = self;
     }
 }

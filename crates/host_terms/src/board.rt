@@ -63,7 +63,8 @@ impl Board {
         self.held.load(Ordering::SeqCst) > 0
     }
 
-    /// Whether it is time to look at the calls that are held back. It says so to one thread. Without a clock it always is.
+    /// Whether it is time to look at the calls that are held back. It says so to one thread. Without a clock it always
+    /// is.
     pub(crate) fn is_to_look(&self, now: Option<u64>) -> bool {
         let Some(now) = now else {
             return true;
@@ -100,8 +101,8 @@ impl Board {
     }
 }
 
-/// The calls of one term that wait, or are held back. Each is noted here, and on the board, once it is in the term's queue,
-/// and claimed before it is taken out. So who has claimed one finds one.
+/// The calls of one term that wait, or are held back. Each is noted here, and on the board, once it is in the term's
+/// queue, and claimed before it is taken out. So who has claimed one finds one.
 #[derive(Drop)]
 pub(crate) struct Calls {
     level: Level,

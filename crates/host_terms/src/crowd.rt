@@ -42,8 +42,8 @@ impl Crowd {
         self.there.fetch_sub(1, Ordering::SeqCst);
     }
 
-    /// A session begins to ask the term. While a job is executed the session may be at a slot, and a job that is submitted
-    /// wants a worker.
+    /// A session begins to ask the term. While a job is executed the session may be at a slot, and a job that is
+    /// submitted wants a worker.
     pub(crate) fn begin(&self, request: &Request) {
         match request {
             Request::Execute(_) => self.enter(),
@@ -95,7 +95,8 @@ impl Crowd {
         self.there.load(Ordering::SeqCst).saturating_sub(asleep)
     }
 
-    /// Whether the worker that asks is to leave. Of several it says so to one, and then not until somebody has looked again.
+    /// Whether the worker that asks is to leave. Of several it says so to one, and then not until somebody has looked
+    /// again.
     pub(crate) fn sheds(&self) -> bool {
         self.is_thick.load(Ordering::SeqCst) && self.is_thick.swap(false, Ordering::SeqCst)
     }

@@ -189,7 +189,8 @@ impl<J: Naming> Desk<J> {
         }
     }
 
-    /// Gives the session's place back to its term. What the term was asked is kept before, or no reply goes out any more.
+    /// Gives the session's place back to its term. What the term was asked is kept before, or no reply goes out any
+    /// more.
     pub(crate) fn give_back<R: Wait>(&self, rt: &R, alloc: Global, booking: Booking<J>) {
         if self.outbox.is_owing() {
             self.outbox.settle(booking.term().kept(rt, alloc));
@@ -211,8 +212,8 @@ impl<J: Naming> Desk<J> {
         }
     }
 
-    /// Has kept what the replies tell that wait, if that can be. The session has its place in hand meanwhile, so nobody else
-    /// waits for the disk.
+    /// Has kept what the replies tell that wait, if that can be. The session has its place in hand meanwhile, so nobody
+    /// else waits for the disk.
     fn kept<R: Wait>(&self, rt: &R, alloc: Global) -> Option<Kept> {
         if !self.outbox.is_owing() {
             return Some(Kept::of_nothing());
@@ -223,8 +224,8 @@ impl<J: Naming> Desk<J> {
         kept
     }
 
-    /// Gives the session's place back to its term, if that takes no new jobs. A session that has replies to let out, once
-    /// what they tell is kept, has its place until then.
+    /// Gives the session's place back to its term, if that takes no new jobs. A session that has replies to let out,
+    /// once what they tell is kept, has its place until then.
     pub(crate) fn give_back_left<R: Wait>(&self, rt: &R) {
         let mut kept = self.booking.lock(rt);
         let is_left = match &*kept {

@@ -21,7 +21,6 @@ pub struct Ending<J: Naming> {
 }
 
 /// A term that is closed.
-#[derive(Drop)]
 pub struct TermEnd {
     pub span: Span,
     pub tenant: TenantConfig,
@@ -35,6 +34,21 @@ pub struct TermEnd {
     pub is_journaled: bool,
     /// Its tenant's history, or what is wrong. None if somebody was still there.
     pub end: Option<Result<Closed, CloseFault>>,
+}
+
+impl Drop for TermEnd {
+    // An owner drops it in one call, not part by part at each of its ways out.
+    fn drop(self) {
+        let TermEnd {
+            span: _span,
+            tenant: _tenant,
+            began: _began,
+            why: _why,
+            outcomes: _outcomes,
+            is_journaled: _is_journaled,
+            end: _end,
+        } = self;
+    }
 }
 
 /// What a term needs to be closed without an allocation.
@@ -53,8 +67,8 @@ impl<J: Naming> Ending<J> {
         }
     }
 
-    /// Closes the term, if no worker is there any more, and brings its journal, if it has one, to the disk before. Otherwise
-    /// it comes back, and so it does if an allocation fails: it can be closed later.
+    /// Closes the term, if no worker is there any more, and brings its journal, if it has one, to the disk before.
+    /// Otherwise it comes back, and so it does if an allocation fails: it can be closed later.
     pub fn close<R: Wait>(
         self,
         rt: &R,
@@ -122,8 +136,8 @@ impl TermEnd {
         }
     }
 
-    /// Whether its journal is to be finished at the host's next start: some jobs have no outcome, its tenant has a slot for
-    /// workers, and its history, all of which the journal has, has room for more.
+    /// Whether its journal is to be finished at the host's next start: some jobs have no outcome, its tenant has a slot
+    /// for workers, and its history, all of which the journal has, has room for more.
     pub fn is_left_over(&self) -> bool
         ensures { result ≡ is_left_over self.now }
     {

@@ -1,5 +1,5 @@
-// What a tenant forgets of its closed terms, noted in a file that outlives the host: which jobs were released, and before which
-// term all jobs are retired.
+// What a tenant forgets of its closed terms, noted in a file that outlives the host: which jobs were released, and
+// before which term all jobs are retired.
 
 use std::alloc::Global;
 use std::fs::File;
@@ -27,13 +27,15 @@ impl Notes {
         }
     }
 
-    /// Notes that a job, by its number outside, is released, whose term is closed. If that fails, it may be noted or not.
+    /// Notes that a job, by its number outside, is released, whose term is closed. If that fails, it may be noted or
+    /// not.
     pub(crate) fn release(&mut self, alloc: Global, job: u64) -> io::Result<()> {
         let line = format!(in alloc; "{{\"released\":{job}}}\n")?;
         self.add(line.as_str())
     }
 
-    /// Notes that all jobs are retired whose terms are before the one of that number. If that fails, it may be noted or not.
+    /// Notes that all jobs are retired whose terms are before the one of that number. If that fails, it may be noted or
+    /// not.
     pub(crate) fn retire(&mut self, alloc: Global, before: u64) -> io::Result<()> {
         let line = format!(in alloc; "{{\"retired\":{before}}}\n")?;
         self.add(line.as_str())

@@ -1,10 +1,11 @@
 // What all threads of a host share.
-ghost use Rattle.std.specs.Prelude.{IfErr};
+ghost use Rattle.std.specs.Prelude.{◌≡◌, IfErr, IfOk};
+ghost use Rattle.std.specs.Arc.{arc_value};
 ghost use Rattle.host_terms.specs.Hellos.{IsRefusal};
 
 mod working;
 
-use crate::admissions::{Admission, Admissions};
+use crate::admissions::Admission;
 use crate::board::Board;
 use crate::desks::Desk;
 use crate::endings::Ending;
@@ -12,7 +13,7 @@ use crate::roster::Roster;
 use crate::tenancies::Tenancy;
 use crate::terms::HostTerm;
 use job_language::{Error, TenantName};
-use server_io::ServerEnd;
+use server_io::ServerFault;
 use std::alloc::{AllocError, Global};
 use std::sync::{Arc, Mutex, Wait};
 use tenant_book::{Naming, Registry};
@@ -34,9 +35,9 @@ pub struct Host<J: Naming> {
 }
 
 impl<J: Naming> Host<J> {
-    /// A host without a tenant, whose histories end a term at that many per cent of their steps. A term takes no new jobs
-    /// once its history has half of the rest as well, if the next one can be opened. So many connections may be bound to
-    /// one tenant.
+    /// A host without a tenant, whose histories end a term at that many per cent of their steps. A term takes no new
+    /// jobs once its history has half of the rest as well, if the next one can be opened. So many connections may be
+    /// bound to one tenant.
     pub fn new(
         alloc: Global,
         registry: Registry<J>,
@@ -95,21 +96,27 @@ impl<J: Naming> Host<J> {
         Arc::try_clone(tenants.get(tenant)?).ok()
     }
 
-    /// A place at the tenant of that number for one more connection. An error if it has as many connections as it may.
-    pub(crate) fn admit<R: Wait>(&self, rt: &R, tenant: usize) -> Result<Admission, Error>
-        ensures { IfErr result IsRefusal }
+    /// A place for one more connection at the tenant of that number, which has that name. An error if it has as many
+    /// connections as it may.
+    pub(crate) fn admit<R: Wait>(
+        &self,
+        rt: &R,
+        tenant: usize,
+        name: TenantName,
+    ) -> Result<Admission<J>, Error>
+        ensures name { IfOk result (λ a. (arc_value a.tenancy).name ≡ name) }
+        ensures refused { IfErr result IsRefusal }
     {
-        let Some(admissions) = self.admissions(rt, tenant) else {
-            // They are there, and too many handles on them are never out.
+        let Some(tenancy) = self.tenancy(rt, tenant) else {
+            // It is there, and too many handles on it are never out.
             return Err(Error::NoMemory);
         };
+        // A number stays that of one tenant. This way nobody has to believe it.
+        if tenancy.name().as_bytes() != name.as_bytes() {
+            return Err(Error::NoMemory);
+        }
         let most = u64::from(self.tenant_connections);
-        Admission::of(admissions, tenant, most).ok_or(Error::ConnectionLimit)
-    }
-
-    /// The connections that are bound to the tenant of that number.
-    fn admissions<R: Wait>(&self, rt: &R, tenant: usize) -> Option<Arc<Admissions>> {
-        self.tenants.lock(rt).get(tenant)?.admissions()
+        Admission::of(tenancy, most).ok_or(Error::ConnectionLimit)
     }
 
     /// How many tenants there are.
@@ -125,9 +132,9 @@ impl<J: Naming> Host<J> {
         tenant: usize,
         term: HostTerm<J>,
         why: Why,
-    ) -> Result<(), ServerEnd> {
+    ) -> Result<(), ServerFault> {
         let Some(tenancy) = self.tenancy(rt, tenant) else {
-            return Err(ServerEnd::Device);
+            return Err(ServerFault::Device);
         };
         let term = shared(alloc, term)?;
         tenancy.begin(rt, &self.roster, tenant, term, why)
@@ -148,8 +155,8 @@ impl<J: Naming> Host<J> {
         tenancy.next_ending(rt, alloc, &self.roster, tenant, desks, is_forced)
     }
 
-    /// Brings the histories of all terms to their journals, and these to the disk if they are to be synced. Without memory
-    /// for handles it is done the next time.
+    /// Brings the histories of all terms to their journals, and these to the disk if they are to be synced. Without
+    /// memory for handles it is done the next time.
     pub fn catch_up<R: Wait>(&self, rt: &R, alloc: Global, syncs: bool) {
         for tenant in 0..self.count(rt) {
             let live = match self.tenancy(rt, tenant) {

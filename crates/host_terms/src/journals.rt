@@ -21,7 +21,8 @@ const SLICE: usize = 64;
 /// How many slices are written by one call of the system at most.
 const SLICES: usize = 8;
 
-/// How often a session that has entries to write lets other threads go first while another one writes, before it sleeps.
+/// How often a session that has entries to write lets other threads go first while another one writes, before it
+/// sleeps.
 const LOOKS: u32 = 100;
 
 /// How often a session that is about to bring the file to the disk lets other threads go first, which may have more to
@@ -65,8 +66,8 @@ pub struct Journal {
     is_broken: AtomicBool,
 }
 
-/// All that a term's tenant was asked up to a moment is where it outlives what it is to outlive. `bring_to_journal` makes
-/// one, or `of_nothing` if no term was asked, and the replies that go out with it end it.
+/// All that a term's tenant was asked up to a moment is where it outlives what it is to outlive. `bring_to_journal`
+/// makes one, or `of_nothing` if no term was asked, and the replies that go out with it end it.
 pub(crate) struct Kept {
     _made_here: (),
 }
@@ -101,8 +102,8 @@ pub(crate) fn bring_to_journal<J: Naming, R: Wait>(
 }
 
 impl Journal {
-    /// The journal of a term that is to begin, in a file that is empty. If it is synced, a reply waits until what it tells
-    /// is on the disk. `Memory` if an allocation fails, and `Failed` if the file does.
+    /// The journal of a term that is to begin, in a file that is empty. If it is synced, a reply waits until what it
+    /// tells is on the disk. `Memory` if an allocation fails, and `Failed` if the file does.
     pub fn begin(
         alloc: Global,
         file: File,
@@ -141,7 +142,8 @@ impl Journal {
         self.count.load(Ordering::SeqCst) >= wanted
     }
 
-    /// Writes what the tenant's history has and the file has not, until the file has so many entries. None if that fails.
+    /// Writes what the tenant's history has and the file has not, until the file has so many entries. None if that
+    /// fails.
     fn write<J: Naming, R: Wait>(
         &self,
         rt: &R,
@@ -208,7 +210,8 @@ impl Journal {
         if is_there { Some(()) } else { None }
     }
 
-    /// Waits until so many entries are on the disk, or it is the caller's turn to bring them there, and says whether it is.
+    /// Waits until so many entries are on the disk, or it is the caller's turn to bring them there, and says whether it
+    /// is.
     fn has_turn_to_sync<R: Wait>(&self, rt: &R, wanted: usize) -> bool {
         let mut synced = self.changed.wait_while(rt, self.synced.lock(rt), |synced| {
             synced.is_syncing && synced.count < wanted
@@ -220,9 +223,9 @@ impl Journal {
         has_turn
     }
 
-    /// Writes what the history has and the file has not, and brings the file to the disk if that is wanted or replies wait
-    /// for it. It says whether all of the history is there, which it is not if the file failed. If an allocation fails, it
-    /// can be done again.
+    /// Writes what the history has and the file has not, and brings the file to the disk if that is wanted or replies
+    /// wait for it. It says whether all of the history is there, which it is not if the file failed. If an allocation
+    /// fails, it can be done again.
     pub(crate) fn catch_up<J: Naming, R: Wait>(
         &self,
         rt: &R,
@@ -249,8 +252,8 @@ impl Journal {
 }
 
 impl<F: Write + Drop> Written<F> {
-    /// Writes what the tenant's history has and the file has not, by one call of the system: all of it, unless it is very
-    /// much.
+    /// Writes what the tenant's history has and the file has not, by one call of the system: all of it, unless it is
+    /// very much.
     fn write_more<J: Naming, R: Wait>(
         &mut self,
         rt: &R,

@@ -1,5 +1,5 @@
-//! The terms of a host's tenants, and the sessions and workers that serve them: a session belongs to a tenant and stays when
-//! its terms follow one another, and workers come to all terms.
+//! The terms of a host's tenants, and the sessions and workers that serve them: a session belongs to a tenant and stays
+//! when its terms follow one another, and workers come to all terms.
 #![tactic(auto)]
 
 mod admissions;

@@ -53,8 +53,8 @@ fn at_once(reply: Reply) -> Reply
     }
 }
 
-/// What a session is told of a term's answer, of which its outbox knows. A slot whose history was full before the job on it
-/// had its outcome says so of the job.
+/// What a session is told of a term's answer, of which its outbox knows. A slot whose history was full before the job
+/// on it had its outcome says so of the job.
 pub(crate) fn told_outside(told: Told, span: Span, owed: Owed) -> Reply
     ensures { result ≡ told_outside span told }
 {

@@ -1,5 +1,5 @@
-// The replies of a session on their way to its client. They wait until what they tell is kept: those of requests that came
-// together wait for one write of the journal, and go out by one write to the stream.
+// The replies of a session on their way to its client. They wait until what they tell is kept: those of requests that
+// came together wait for one write of the journal, and go out by one write to the stream.
 ghost use Rattle.std.specs.Prelude.{◌≤◌, IfOk, length};
 
 use crate::desks::Desk;
@@ -15,8 +15,8 @@ use tenant_book::Naming;
 /// How many bytes of replies wait at most.
 const ROOM: usize = 4096;
 
-/// The outbox knows that a term has answered, so that the reply goes out only once that is kept. `Outbox::owe` alone makes
-/// one, and the reply that tells the answer ends it.
+/// The outbox knows that a term has answered, so that the reply goes out only once that is kept. `Outbox::owe` alone
+/// makes one, and the reply that tells the answer ends it.
 pub(crate) struct Owed {
     _made_here: (),
 }
@@ -36,13 +36,13 @@ struct Held {
     lines: Vec<u8>,
 }
 
-/// The replies of a desk's session on their way to its client. A client that takes none holds up the session's thread alone:
-/// no other thread takes the lock.
+/// The replies of a desk's session on their way to its client. A client that takes none holds up the session's thread
+/// alone: no other thread takes the lock.
 #[derive(Drop)]
 pub(crate) struct Outbox {
     held: Mutex<Option<Held>>,
-    /// Whether what the term was asked in which the session has its place may not be kept yet. What other terms were asked
-    /// is.
+    /// Whether what the term was asked in which the session has its place may not be kept yet. What other terms were
+    /// asked is.
     is_owing: AtomicBool,
     /// Whether something can't be kept: nothing goes out any more.
     is_lost: AtomicBool,

@@ -150,7 +150,8 @@ impl Outlet {
         self.reported.put(rt, line);
     }
 
-    /// Lets an event be reported, with the time since 1970. It is lost if the clock can't be read or an allocation fails.
+    /// Lets an event be reported, with the time since 1970. It is lost if the clock can't be read or an allocation
+    /// fails.
     pub fn say<R: Wait + Clock>(&self, rt: &R, alloc: Global, event: Event<'_>) {
         self.report(rt, line_of(rt, alloc, event));
     }
@@ -168,8 +169,8 @@ fn line_of<R: Clock>(rt: &R, alloc: Global, event: Event<'_>) -> Option<String> 
     event.line(alloc, time).ok()
 }
 
-/// Writes what an outlet has for standard output, a line at a time, as long as the process lives. Lines that were lost are
-/// reported as an event.
+/// Writes what an outlet has for standard output, a line at a time, as long as the process lives. Lines that were lost
+/// are reported as an event.
 pub fn write_printed<R: Wait + Clock + Print>(rt: &R, alloc: Global, outlet: &Outlet) {
     for _line in rt.forever() {
         match outlet.printed.next(rt) {

@@ -42,8 +42,8 @@ impl<'h, J: Naming> Reception<'h, J> {
         }
     }
 
-    /// Accepts connections as long as some wait and desks are free, at that time of the monotonic clock, in milliseconds:
-    /// how many. An error if one could not be accepted.
+    /// Accepts connections as long as some wait and desks are free, at that time of the monotonic clock, in
+    /// milliseconds: how many. An error if one could not be accepted.
     pub fn admit<R: Wait>(
         &mut self,
         rt: &R,
@@ -81,8 +81,8 @@ impl<'h, J: Naming> Reception<'h, J> {
         Ok(())
     }
 
-    /// Ends the connections that have done nothing for too long by that time of the monotonic clock, in milliseconds: how
-    /// many.
+    /// Ends the connections that have done nothing for too long by that time of the monotonic clock, in milliseconds:
+    /// how many.
     pub fn cut<R: Wait>(&self, rt: &R, now: u64, patience: Patience) -> Cuts {
         let mut cuts = Cuts { hello: 0, idle: 0 };
         for desk in self.desks {
@@ -101,8 +101,8 @@ impl<'h, J: Naming> Reception<'h, J> {
         let _ = self.watch.leave(endpoint);
     }
 
-    /// Waits until something happens, for a tick at most. It says whether a guest has gone, whose session then is to stop
-    /// waiting.
+    /// Waits until something happens, for a tick at most. It says whether a guest has gone, whose session then is to
+    /// stop waiting.
     pub fn attend<R: Wait>(&mut self, rt: &R) -> io::Result<bool> {
         self.watch.wait(Duration::from_millis(TICK))?;
         let mut has_gone = false;

@@ -83,9 +83,9 @@ impl<J: Naming> Roster<J> {
         }
     }
 
-    /// The term that a worker is to come to next, and the number of its tenant: of the tenants of the highest level at which
-    /// a call waits, the one whose turn it is, and its oldest term with such a call, which is claimed. None if no call
-    /// waits.
+    /// The term that a worker is to come to next, and the number of its tenant: of the tenants of the highest level at
+    /// which a call waits, the one whose turn it is, and its oldest term with such a call, which is claimed. None if no
+    /// call waits.
     pub(crate) fn next(&mut self, board: &Board) -> Option<(usize, Arc<HostTerm<J>>)> {
         for level in [Level::High, Level::Normal, Level::Low] {
             if board.has_call_at(level) {
@@ -117,7 +117,8 @@ impl<J: Naming> Roster<J> {
         Some((tenant, term))
     }
 
-    /// Of the tenants from that number on, the first one of which a call is held back, and its oldest term with such a call.
+    /// Of the tenants from that number on, the first one of which a call is held back, and its oldest term with such a
+    /// call.
     pub(crate) fn next_held(&self, from: usize) -> Option<(usize, Arc<HostTerm<J>>)> {
         for (tenant, entry) in self.entries.iter().enumerate().skip(from) {
             if let Some(term) = entry.first_held() {

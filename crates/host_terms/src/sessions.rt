@@ -1,8 +1,9 @@
 // A session's ways to the tenants of a host.
-ghost use Rattle.std.specs.Prelude.{◌≡◌, ◌≢◌, IfErr, None};
+ghost use Rattle.std.specs.Prelude.{◌≡◌, ◌≢◌, IfSome, None};
 ghost use Rattle.job_language.specs.Collecting.{IsCollect};
-ghost use Rattle.host_terms.specs.Answers.{IsAnswer, IsServed, job_named, told_of};
-ghost use Rattle.host_terms.specs.Hellos.{IsRefusal};
+ghost use Rattle.host_terms.specs.Answers.{IsAnswer, IsAnswered, IsServed, job_named, told_of};
+ghost use Rattle.host_terms.specs.Bookings.{IsOf};
+ghost use Rattle.host_terms.specs.Hellos.{IsBoundBy, bound_name};
 
 mod forgetting;
 mod owners;
@@ -11,7 +12,7 @@ use crate::admissions::Admission;
 use crate::desks::Desk;
 use crate::hosts::Host;
 use crate::numbering::{Served, brings_job, job_named, told_outside};
-use crate::tenancies::Found;
+use crate::tenancies::{Found, Tenancy};
 use crate::terms::Booking;
 use job_language::{Error, Moved, Reply, Request, TenantName};
 use job_step::{Segment, View};
@@ -26,8 +27,8 @@ use tenant_book::Naming;
 /// How many terms are tried for one request, each of which has a full history.
 const TRIES: u32 = 4;
 
-/// One session's ways to the tenants of a host. It stays when terms follow one another: each request goes to the term that
-/// serves, or to that of the job that it names. A slot that a job is placed on is attended within the request.
+/// One session's ways to the tenants of a host. It stays when terms follow one another: each request goes to the term
+/// that serves, or to that of the job that it names. A slot that a job is placed on is attended within the request.
 #[derive(Drop)]
 pub(crate) struct HostDoors<'h, J: Naming, R: Wait + Clock> {
     rt: &'h R,
@@ -35,7 +36,7 @@ pub(crate) struct HostDoors<'h, J: Naming, R: Wait + Clock> {
     host: &'h Host<J>,
     desk: &'h Desk<J>,
     /// Its place at the tenant that it is bound to.
-    admission: Option<Admission>,
+    admission: Option<Admission<J>>,
 }
 
 impl<'h, J: Naming, R: Wait + Clock> HostDoors<'h, J, R> {
@@ -61,48 +62,48 @@ impl<'h, J: Naming, R: Wait + Clock> HostDoors<'h, J, R> {
 
     /// Asks the tenant that the session is bound to, if it is.
     fn ask_admitted(&self, request: Request) -> Reply
-        ensures answer { IsAnswer request result }
+        ensures answer { IsAnswered (bound_name self.now.admission) request result }
         ensures pending { result ≡ Reply.Pending → IsCollect request }
     {
         match &self.admission {
             None => Reply::Refused(Error::NoTenant),
-            Some(admission) => self.ask_bound(admission.tenant(), request),
+            Some(admission) => self.ask_bound(admission.tenancy(), request),
         }
     }
 
     /// Asks that tenant: about a job, the term that the job belongs to.
-    fn ask_bound(&self, tenant: usize, request: Request) -> Reply
-        ensures answer { IsAnswer request result }
+    fn ask_bound(&self, tenancy: &Tenancy<J>, request: Request) -> Reply
+        ensures answer { IsAnswer tenancy.now.name request result }
         ensures pending { result ≡ Reply.Pending → IsCollect request }
     {
         let Some(job) = job_named(&request) else {
-            return self.ask_newest(tenant, request);
+            return self.ask_newest(tenancy, request);
         };
-        self.ask_owner(tenant, job, request)
+        self.ask_owner(tenancy, job, request)
     }
 
     /// Asks the term that serves, or all of the tenant's terms to retire.
-    fn ask_newest(&self, tenant: usize, request: Request) -> Reply
+    fn ask_newest(&self, tenancy: &Tenancy<J>, request: Request) -> Reply
         requires { job_named request ≡ None }
-        ensures answer { IsServed request result }
+        ensures answer { IsServed tenancy.now.name request result }
         ensures at_once { result ≢ Reply.Pending }
     {
         match request {
-            Request::Retire => self.retire(tenant),
-            other => self.ask_serving(tenant, other).reply,
+            Request::Retire => self.retire(tenancy),
+            other => self.ask_serving(tenancy, other).reply,
         }
     }
 
     /// Asks the term that serves, or the next one if its history is full.
-    fn ask_serving(&self, tenant: usize, request: Request) -> Served
-        ensures answer { IsServed request result.reply }
+    fn ask_serving(&self, tenancy: &Tenancy<J>, request: Request) -> Served
+        ensures answer { IsServed tenancy.now.name request result.reply }
         ensures at_once { result.reply ≢ Reply.Pending }
     {
         let stop = self.desk.is_gone();
         let mut request = request;
         for _try in 0..TRIES {
-            let Some(booking) = self.book_for(tenant, &request) else {
-                if self.waits_for_next(tenant, None) {
+            let Some(booking) = self.book_for(tenancy, &request) else {
+                if self.waits_for_next(tenancy, None) {
                     continue;
                 }
                 return Served::by_none();
@@ -110,7 +111,7 @@ impl<'h, J: Naming, R: Wait + Clock> HostDoors<'h, J, R> {
             let span = booking.term().span();
             if booking.term().is_broken() {
                 self.desk.keep_booking(self.rt, booking);
-                if self.waits_for_next(tenant, Some(span.number)) {
+                if self.waits_for_next(tenancy, Some(span.number)) {
                     continue;
                 }
                 return Served::by_none();
@@ -123,7 +124,7 @@ impl<'h, J: Naming, R: Wait + Clock> HostDoors<'h, J, R> {
             let Some(again) = spare else {
                 return Served::by(span.number, reply);
             };
-            if !is_full || !self.waits_for_next(tenant, Some(span.number)) {
+            if !is_full || !self.waits_for_next(tenancy, Some(span.number)) {
                 return Served::by(span.number, reply);
             }
             request = again;
@@ -131,14 +132,11 @@ impl<'h, J: Naming, R: Wait + Clock> HostDoors<'h, J, R> {
         Served::by_none()
     }
 
-    /// Waits until another term serves than the one of that number, as `Tenancy::wait_for_next` says. The replies to what
-    /// was asked before go out.
-    fn waits_for_next(&self, tenant: usize, number: Option<u64>) -> bool {
+    /// Waits until another term serves than the one of that number, as `Tenancy::wait_for_next` says. The replies to
+    /// what was asked before go out.
+    fn waits_for_next(&self, tenancy: &Tenancy<J>, number: Option<u64>) -> bool {
         self.let_out();
-        match self.host.tenancy(self.rt, tenant) {
-            Some(tenancy) => tenancy.wait_for_next(self.rt, number, self.desk.is_gone()),
-            None => false,
-        }
+        tenancy.wait_for_next(self.rt, number, self.desk.is_gone())
     }
 
     /// Lets the replies go out to what was asked before, since the next one may take a while.
@@ -159,31 +157,33 @@ impl<'h, J: Naming, R: Wait + Clock> HostDoors<'h, J, R> {
         told_outside(told, booking.term().span(), owed)
     }
 
-    /// A place in the term that serves. One whose history is used so far that its jobs may need the rest begins no job, if
-    /// another one can be opened.
-    fn book_for(&self, tenant: usize, request: &Request) -> Option<Booking<J>> {
-        let booking = self.book_serving(tenant)?;
+    /// A place in the term that serves. One whose history is used so far that its jobs may need the rest begins no job,
+    /// if another one can be opened.
+    fn book_for(&self, tenancy: &Tenancy<J>, request: &Request) -> Option<Booking<J>>
+        ensures { IfSome result (λ b. IsOf tenancy.now.name b.term) }
+    {
+        let booking = self.book_serving(tenancy)?;
         if !brings_job(request) || !self.host.is_used(self.rt, booking.term()) {
             return Some(booking);
         }
         let number = booking.term().span().number;
         self.desk.keep_booking(self.rt, booking);
         self.let_out();
-        if let Some(tenancy) = self.host.tenancy(self.rt, tenant) {
-            tenancy.wait_if_one_comes(self.rt, number, self.desk.is_gone());
-        }
-        self.book_serving(tenant)
+        tenancy.wait_if_one_comes(self.rt, number, self.desk.is_gone());
+        self.book_serving(tenancy)
     }
 
     /// A place in the term that serves.
-    fn book_serving(&self, tenant: usize) -> Option<Booking<J>> {
+    fn book_serving(&self, tenancy: &Tenancy<J>) -> Option<Booking<J>>
+        ensures { IfSome result (λ b. IsOf tenancy.now.name b.term) }
+    {
         if let Some(booking) = self.desk.take_booking(self.rt) {
-            if !booking.term().is_left() {
+            if booking.term().is_of(tenancy.name()) && !booking.term().is_left() {
                 return Some(booking);
             }
             self.desk.give_back(self.rt, self.alloc, booking);
         }
-        self.host.tenancy(self.rt, tenant)?.book_serving(self.rt)
+        tenancy.book_serving(self.rt)
     }
 }
 
@@ -222,18 +222,19 @@ impl<'h, J: Naming, R: Wait + Clock> Door for HostDoors<'h, J, R> {
 impl<'h, J: Naming, R: Wait + Clock> Doors for HostDoors<'h, J, R> {
     ghost finds = { λ _ _ _. Unit {0} };
 
-    ghost binds = { λ _ _ answer _. IfErr answer IsRefusal };
+    ghost binds = { λ _ _ name answer e. IsBoundBy name answer e.admission };
 
-    ghost asks = { λ _ request answered _. IsAnswer request answered.reply };
+    ghost asks = { λ d request answered e.
+        IsAnswered (bound_name d.admission) request answered.reply × (e.admission ≡ d.admission) };
 
-    ghost waits = { λ _ _ _ _. Unit {0} };
+    ghost waits = { λ d _ _ e. e.admission ≡ d.admission };
 
     fn find(&self, name: TenantName) -> Option<usize> {
         self.host.find(self.rt, name)
     }
 
-    fn bind(&mut self, tenant: usize) -> Result<(), Error> {
-        self.admission = Some(self.host.admit(self.rt, tenant)?);
+    fn bind(&mut self, tenant: usize, name: TenantName) -> Result<(), Error> {
+        self.admission = Some(self.host.admit(self.rt, tenant, name)?);
         self.desk.bind();
         Ok(())
     }
@@ -256,9 +257,8 @@ impl<'h, J: Naming, R: Wait + Clock> Doors for HostDoors<'h, J, R> {
         let Some(admission) = &self.admission else {
             return true;
         };
-        let tenant = admission.tenant();
         self.let_out();
-        match self.find_owner(tenant, job, &Request::Collect(job)) {
+        match self.find_owner(admission.tenancy(), job, &Request::Collect(job)) {
             Found::Live(booking) => {
                 self.desk.begin_asking();
                 let stops = booking.wait_for(self.rt, job, self.desk.is_gone());

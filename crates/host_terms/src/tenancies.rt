@@ -1,6 +1,7 @@
 // A tenant at a host: its terms, one of which serves at most, and the outcomes of those that are closed.
 ghost use Rattle.std.specs.Prelude.{◌≡◌, ◌≤◌, true, IfSome};
 ghost use Rattle.std.specs.Arc.{arc_value};
+ghost use Rattle.host_terms.specs.Bookings.{IsOf};
 ghost use Rattle.host_terms.specs.Found.{IsFound};
 ghost use Rattle.term_life.specs.Spans.{has_job};
 ghost use Rattle.term_life.specs.declared.terms.TheConstants.{MOST_JOBS};
@@ -14,7 +15,7 @@ use crate::forgetting::Notes;
 use crate::roster::Roster;
 use crate::terms::{Booking, HostTerm};
 use job_language::{Error, Reply, Request, TenantName};
-use server_io::ServerEnd;
+use server_io::ServerFault;
 use std::alloc::{AllocError, Global};
 use std::sync::{Arc, Condvar, Mutex, Wait};
 use tenant_book::Naming;
@@ -76,22 +77,17 @@ pub struct Tenancy<J: Naming> {
     /// Where it is noted what is forgotten of terms that are closed.
     notes: Mutex<Option<Notes>>,
     /// The connections that are bound to it.
-    admissions: Arc<Admissions>,
+    admissions: Admissions,
 }
 
 impl<J: Naming> Tenancy<J> {
-    /// A tenant without a term. The first one will have that number, and its jobs are numbered after `base`. Of terms that
-    /// are closed the outcomes of the last `keep` are kept. An error if an allocation fails.
-    pub fn new(
-        alloc: Global,
-        name: TenantName,
-        first: u64,
-        base: u64,
-        keep: usize,
-    ) -> Result<Tenancy<J>, AllocError>
+    /// A tenant without a term. The first one will have that number, and its jobs are numbered after `base`. Of terms
+    /// that are closed the outcomes of the last `keep` are kept.
+    pub fn new(alloc: Global, name: TenantName, first: u64, base: u64, keep: usize) -> Tenancy<J>
         requires { base ≤ MOST_JOBS }
+        ensures name { result.name ≡ name }
     {
-        Ok(Tenancy {
+        Tenancy {
             name,
             lives: Mutex::new(Lives {
                 terms: Terms::new(alloc, first, base),
@@ -105,18 +101,20 @@ impl<J: Naming> Tenancy<J> {
             }),
             changed: Condvar::new(),
             notes: Mutex::new(None),
-            admissions: Arc::new(alloc, Admissions::new())?,
-        })
+            admissions: Admissions::new(),
+        }
     }
 
     /// The tenant's name.
-    pub fn name(&self) -> TenantName {
+    pub fn name(&self) -> TenantName
+        ensures { result ≡ self.now.name }
+    {
         self.name
     }
 
-    /// The connections that are bound to it. None if there are too many handles on them.
-    pub(crate) fn admissions(&self) -> Option<Arc<Admissions>> {
-        Arc::try_clone(&self.admissions).ok()
+    /// The connections that are bound to it.
+    pub(crate) fn admissions(&self) -> &Admissions {
+        &self.admissions
     }
 
     /// How many connections are bound to the tenant.
@@ -206,9 +204,10 @@ impl<J: Naming> Tenancy<J> {
             .find(|term| term.number == number)
     }
 
-    /// A term that was made for the numbers of `next` serves from now on, and the one before goes on for the jobs that it
-    /// has; it was left for that reason. Workers come to it as one of the tenant of that number. `Memory` if an allocation
-    /// fails, and `Device` if the numbers are not the next ones; nothing has changed then.
+    /// A term that was made for the numbers of `next` serves from now on, and the one before goes on for the jobs that
+    /// it has; it was left for that reason. Workers come to it as one of the tenant of that number. `Memory` if an
+    /// allocation fails, and `Device` if the numbers are not the next ones or it is another tenant's; nothing has
+    /// changed then.
     pub(crate) fn begin<R: Wait>(
         &self,
         rt: &R,
@@ -216,18 +215,18 @@ impl<J: Naming> Tenancy<J> {
         tenant: usize,
         term: Arc<HostTerm<J>>,
         why: Why,
-    ) -> Result<(), ServerEnd> {
+    ) -> Result<(), ServerFault> {
         let Span { number, base, room } = term.span();
         let mut lives = self.lives.lock(rt);
-        if number != lives.terms.next() || base != lives.terms.base() {
-            return Err(ServerEnd::Device);
+        if number != lives.terms.next() || base != lives.terms.base() || !term.is_of(self.name) {
+            return Err(ServerFault::Device);
         }
         lives.live.reserve(1)?;
         let handle = Arc::try_clone(&term)?;
         let mut roster = roster.lock(rt);
         roster.make_room(tenant)?;
         if lives.terms.open(why, room)?.is_none() {
-            return Err(ServerEnd::Device);
+            return Err(ServerFault::Device);
         }
         if let Some(before) = lives.live.last() {
             before.leave();
@@ -268,20 +267,22 @@ impl<J: Naming> Tenancy<J> {
     }
 
     /// A place in the term that serves. None if none does.
-    pub(crate) fn book_serving<R: Wait>(&self, rt: &R) -> Option<Booking<J>> {
+    pub(crate) fn book_serving<R: Wait>(&self, rt: &R) -> Option<Booking<J>>
+        ensures { IfSome result (λ b. IsOf self.now.name b.term) }
+    {
         let lives = self.lives.lock(rt);
-        Booking::of(rt, lives.serving()?)
+        Booking::of(rt, lives.serving()?, self.name)
     }
 
     /// Where a job is to be asked for, by its number outside.
     pub(crate) fn find<R: Wait>(&self, rt: &R, job: u64, request: &Request) -> Found<J>
-        ensures { IsFound job request.now result }
+        ensures { IsFound self.now.name job request.now result }
     {
         let mut lives = self.lives.lock(rt);
         let retired = lives.retired;
         let booked = match lives.owner(job) {
             Some(term) if term.span().number < retired => None,
-            Some(term) => Some(Booking::of(rt, term)),
+            Some(term) => Some(Booking::of(rt, term, self.name)),
             None => None,
         };
         match booked {

@@ -1,8 +1,9 @@
 // A term of a tenant: a house of this tenant alone, and the places of all threads in it.
-ghost use Rattle.std.specs.Prelude.{◌≡◌, ◌≤◌, ◌⊎◌, [], ◌∷◌, IfErr, IfOk, option_map};
-ghost use Rattle.server_io.specs.declared.ends.ServerEnd.TheVariants as end;
+ghost use Rattle.std.specs.Prelude.{◌≡◌, ◌≤◌, ◌⊎◌, [], ◌∷◌, IfErr, IfOk, option_map, true};
+ghost use Rattle.server_io.specs.declared.ends.ServerFault.TheVariants as end;
 ghost use Rattle.std.specs.Arc.{arc_value};
 ghost use Rattle.server_house.specs.Houses.{first_life};
+ghost use Rattle.host_terms.specs.Bookings.{IsAt, IsOf, seen_of};
 
 mod bookings;
 mod crowding;
@@ -13,9 +14,9 @@ use crate::crowd::Crowd;
 use crate::journals::{Journal, Kept, bring_to_journal};
 use crate::places::{Place, TermGate};
 pub(crate) use bookings::Booking;
-use job_language::{Config, Level, TenantConfig};
+use job_language::{Config, Level, TenantConfig, TenantName};
 use server_house::{ClientSeats, House, Lodging, OwnClient, OwnPost};
-use server_io::ServerEnd;
+use server_io::ServerFault;
 use std::alloc::{AllocError, Global};
 use std::sync::atomic::{AtomicBool, Ordering};
 use std::sync::{Arc, Mutex, Wait};
@@ -25,7 +26,6 @@ use term_life::Span;
 use worker_main::Visiting;
 
 /// A term that is not closed.
-#[derive(Drop)]
 pub struct HostTerm<J: Naming> {
     span: Span,
     tenant: TenantConfig,
@@ -46,8 +46,29 @@ pub struct HostTerm<J: Naming> {
     sessions: usize,
 }
 
-/// The configuration of one tenant and so many workers. `Config` if they make none, and `Memory` if an allocation fails.
-fn config_of_one(alloc: Global, tenant: TenantConfig, workers: usize) -> Result<Config, ServerEnd>
+impl<J: Naming> Drop for HostTerm<J> {
+    // An owner drops it in one call, not part by part at each of its ways out.
+    fn drop(self) {
+        let HostTerm {
+            span: _span,
+            tenant: _tenant,
+            began: _began,
+            house: _house,
+            journal: _journal,
+            calls: _calls,
+            crowd: _crowd,
+            is_left: _is_left,
+            posts: _posts,
+            workers: _workers,
+            clients: _clients,
+            sessions: _sessions,
+        } = self;
+    }
+}
+
+/// The configuration of one tenant and so many workers. `Config` if they make none, and `Memory` if an allocation
+/// fails.
+fn config_of_one(alloc: Global, tenant: TenantConfig, workers: usize) -> Result<Config, ServerFault>
     ensures tenant { IfOk result (λ config. config.tenants ≡ tenant ∷ []) }
     ensures workers { IfOk result (λ config. config.workers ≡ workers) }
     ensures fault { IfErr result (λ fault. (fault ≡ end.Config) ⊎ (fault ≡ end.Memory)) }
@@ -56,13 +77,13 @@ fn config_of_one(alloc: Global, tenant: TenantConfig, workers: usize) -> Result<
     tenants.push_reserved(tenant);
     match Config::new(tenants, workers) {
         Some(config) => Ok(config),
-        None => Err(ServerEnd::Config),
+        None => Err(ServerFault::Config),
     }
 }
 
 impl<J: Naming> HostTerm<J> {
-    /// A term that has done nothing yet, for so many workers and sessions. `Config` if the tenant can't be served by so many
-    /// workers, `Device` if a place is missing, and `Memory` if an allocation fails.
+    /// A term that has done nothing yet, for so many workers and sessions. `Config` if the tenant can't be served by so
+    /// many workers, `Device` if a place is missing, and `Memory` if an allocation fails.
     pub fn open<R: Wait>(
         rt: &R,
         alloc: Global,
@@ -73,12 +94,12 @@ impl<J: Naming> HostTerm<J> {
         workers: usize,
         sessions: u8,
         journal: Option<Journal>,
-    ) -> Result<HostTerm<J>, ServerEnd>
+    ) -> Result<HostTerm<J>, ServerFault>
         requires { 1 ≤ sessions }
     {
         let config = config_of_one(alloc, tenant, workers)?;
         let Some(lodging) = Lodging::open(rt, alloc, registry, &config, sessions)? else {
-            return Err(ServerEnd::Device);
+            return Err(ServerFault::Device);
         };
         let Lodging {
             house,
@@ -107,6 +128,21 @@ impl<J: Naming> HostTerm<J> {
         ensures { result ≡ self.now.span }
     {
         self.span
+    }
+
+    /// Whether it is a term of the tenant of that name.
+    pub(crate) fn is_of(&self, name: TenantName) -> bool
+        ensures { result ≡ true → IsOf name (seen_of self.now) }
+    {
+        self.house.is_of(name)
+    }
+
+    /// Whether a client asks its tenant, in the life that this has here, and that has that name.
+    fn is_home_of(&self, client: &OwnClient<J>, name: TenantName) -> bool
+        ensures at { result ≡ true → IsAt (seen_of self.now) client.now }
+        ensures name { result ≡ true → IsOf name (seen_of self.now) }
+    {
+        client.life() == self.house.first_life() && client.is_of(name) && self.is_of(name)
     }
 
     /// What its tenant is given.
@@ -171,8 +207,8 @@ impl<J: Naming> HostTerm<J> {
         bring_to_journal(rt, alloc, self.journal.as_ref(), self.door())
     }
 
-    /// Brings all of its history to its journal, and that to the disk if it is to be synced. It says whether all of it is
-    /// there. If an allocation fails, it can be done again.
+    /// Brings all of its history to its journal, and that to the disk if it is to be synced. It says whether all of it
+    /// is there. If an allocation fails, it can be done again.
     pub(crate) fn catch_up<R: Wait>(
         &self,
         rt: &R,
@@ -219,8 +255,8 @@ impl<J: Naming> HostTerm<J> {
         self.house.stop(rt);
     }
 
-    /// Closes it, once nobody is there: its tenant's history, or what is wrong. Its calls leave the board. The seats of its
-    /// sessions are put where there is room for them. None if somebody still is there.
+    /// Closes it, once nobody is there: its tenant's history, or what is wrong. Its calls leave the board. The seats of
+    /// its sessions are put where there is room for them. None if somebody still is there.
     pub(crate) fn close<R: Wait>(
         self,
         rt: &R,

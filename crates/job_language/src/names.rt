@@ -12,7 +12,7 @@ pub const MAX_NAME: usize = 32;
 #[derive(Clone, Copy, Debug, PartialEq, Eq)]
 pub struct TenantName {
     bytes: [u8; MAX_NAME],
-    len: usize,
+    len: u8,
 }
 
 impl Model for TenantName {
@@ -39,9 +39,9 @@ impl TenantName {
         if !is_name(text.as_bytes()) {
             return None;
         }
-        let len = text.len();
         let mut bytes = [0; MAX_NAME];
-        bytes[..len].copy_from_slice(text.as_bytes());
+        bytes[..text.len()].copy_from_slice(text.as_bytes());
+        let len = text.len() as u8;
         Some(TenantName { bytes, len })
     }
 
@@ -50,7 +50,7 @@ impl TenantName {
         ensures value { result.now ≡ self.now }
         ensures name { is_name self.now ≡ true }
     {
-        &self.bytes[..self.len]
+        &self.bytes[..usize::from(self.len)]
     }
 
     /// Its text.

@@ -87,7 +87,7 @@ pub struct Tenant {
     pub isolation: Isolation,
     /// The arena's concurrency level, from 1 to 16.
     pub slots: u8,
-    /// How many of the slots are for masters, from 0 to all of them.
+    /// How many of the slots are reserved, from 0 to all of them: no worker comes to these.
     pub reserved: u8,
     /// How many rows may be open at once, from 1 to 4,096.
     pub rows: usize,

@@ -6,7 +6,7 @@ use Rattle.world_model.specs.declared.calls.SlotState.TheVariants as slot
 use Rattle.world_model.specs.declared.calls.WorkerState.TheVariants as worker
 use Rattle.world_model.specs.Market.{Market}
 
--- a tenant's slots: those for masters, and then those for workers, which are at home
+-- a tenant's slots: the reserved ones, and then those for workers, which are at home
 abbrev pub first_slots : MarketTenant → List SlotState
 first_slots t = replicate t.reserved slot.Reserved ++ replicate (t.slots - t.reserved) slot.Home
 

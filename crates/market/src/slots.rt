@@ -11,7 +11,7 @@ use std::alloc::{AllocError, Global};
 use std::marker::Model;
 use world_model::SlotState;
 
-/// Where the slots of a tenant are, numbered from 0: those for masters first.
+/// Where the slots of a tenant are, numbered from 0: the reserved ones first.
 #[derive(Drop)]
 pub struct SlotStates {
     states: Vec<SlotState>,

@@ -12,7 +12,7 @@ pub struct MarketTenant {
     pub level: Level,
     /// How many slots it has, at most 16.
     pub slots: u8,
-    /// How many of them are for masters.
+    /// How many of them are reserved, from 0 to all of them: no worker is called to these.
     pub reserved: u8,
 }
 

@@ -14,8 +14,8 @@ pub struct PartRead {
     pub entries: Vec<Entry>,
 }
 
-/// What the bytes of a part say: its tenant, and the entries of its whole lines, up to the first that says none. None if
-/// it has no whole line that names a tenant. It fails only if an allocation failed.
+/// What the bytes of a part say: its tenant, and the entries of its whole lines, up to the first that says none. None
+/// if it has no whole line that names a tenant. It fails only if an allocation failed.
 pub fn read_part(alloc: Global, bytes: &[u8]) -> Result<Option<PartRead>, AllocError>
     ensures { IfOk result (λ part. option_map (λ p. (p.config, p.entries.items)) part
         ≡ part_in bytes.now) }

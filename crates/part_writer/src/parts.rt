@@ -41,7 +41,8 @@ impl<F: Write + Drop> LivePart<F> {
         Ok(part)
     }
 
-    /// Adds entries. At a fault the file has a first piece of their lines more, and nothing may be added to it any more:
+    /// Adds entries. At a fault the file has a first piece of their lines more, and nothing may be added to it any
+    /// more:
     /// `Memory` if an allocation fails, `Failed` if the file does, and `NoEntry` if no history holds one of them.
     pub fn add(&mut self, alloc: Global, entries: &[Entry]) -> Result<(), PartFault>
         ensures written { OnOk result (Appends (F.contents self.old) (F.contents self.new) (entries_text entries.now)) }

@@ -10,8 +10,8 @@ use crate::texts::entries_of;
 use job_language::Entry;
 use std::alloc::Global;
 
-/// Adds entries to a part. A crash at any moment leaves a file from which all that was on the disk is read, and then some
-/// of what was added, from the first on.
+/// Adds entries to a part. A crash at any moment leaves a file from which all that was on the disk is read, and then
+/// some of what was added, from the first on.
 pub fn add_entries<F: PartFile>(
     alloc: Global,
     file: &mut F,

@@ -43,8 +43,8 @@ pub struct HostWords<'a> {
 
 /// Reads the words of a command line, the program's name first: `arena-host --config F --run D [--connections N]
 /// [--tenant-connections N] [--rotate-at P] [--keep K] [--finish S] [--hello-seconds S] [--idle-seconds S]
-/// [--durable off|write|second|reply] [--mode M] [--group G]`, in any order, also as `--config=F`. M is in octal digits, all
-/// other numbers are in decimal ones.
+/// [--durable off|write|second|reply] [--mode M] [--group G]`, in any order, also as `--config=F`. M is in octal
+/// digits, all other numbers are in decimal ones.
 pub fn read_host_words<'a>(alloc: Global, words: &'a [&'a str]) -> Result<HostWords<'a>, WordsFault>
     ensures read { IfOk result
         (λ read. AreRead (options_in (map (λ word. word.now) words.entry.now)) read) }

@@ -28,9 +28,9 @@ abbrev pub Finds : SessionSeen → (name : List ℕ) → Option ℕ → Type 0
 Finds s name tenant = tenant ≡ position (bytes_eq name) s.names
 
 -- A session is bound to any tenant that it asks for.
-abbrev pub Binds : SessionSeen → (tenant : ℕ) → Result (Unit {0}) Error → SessionSeen → Type 0
-Binds s tenant (Ok u) t = t ≡ record s { bound = tenant }
-Binds s tenant (Err error) t = ⊥
+abbrev pub Binds : SessionSeen → (tenant : ℕ) → (name : List ℕ) → Result (Unit {0}) Error → SessionSeen → Type 0
+Binds s tenant name (Ok u) t = t ≡ record s { bound = tenant }
+Binds s tenant name (Err error) t = ⊥
 
 -- An advance of the slot; the slot that it made due is pushed.
 abbrev pub Advances : SessionSeen → Moved → SessionSeen → Type 0

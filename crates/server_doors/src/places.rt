@@ -1,4 +1,5 @@
-// One thread's calls at the doors of tenants, each of which goes on from what the thread has seen of that tenant's history.
+// One thread's calls at the doors of tenants, each of which goes on from what the thread has seen of that tenant's
+// history.
 ghost use Rattle.std.specs.Prelude.{◌≡◌, ◌≤◌, ◌<◌, IfSome, length};
 ghost use Rattle.std.specs.Option.{is_some};
 ghost use Rattle.job_language.specs.Collecting.{IsCollect};
@@ -16,7 +17,7 @@ use job_step::{Segment, View};
 use market_config::Call;
 use std::sync::Wait;
 use tenant_book::{Front, Naming};
-use tenant_lock::{TenantDoor, Turned};
+use tenant_lock::{MovedAndSeen, TenantDoor};
 use tenant_record::{Arrived, AskOutcome, Pass, Seat};
 
 /// Asks by a seat.
@@ -70,7 +71,7 @@ pub(crate) fn advance_and_look<J: Naming, R: Wait>(
     fronts: &mut Vec<Front<J>>,
     pass: Pass,
     view: &mut View,
-) -> Turned
+) -> MovedAndSeen
     requires numbers { AreNumbered doors.now }
     requires fronts { AreFronts doors.now fronts.old.items }
     requires tenant { pass.tenant < length doors.now }
@@ -91,7 +92,7 @@ pub(crate) fn advance_and_count<J: Naming, R: Wait>(
     doors: &[TenantDoor<J>],
     fronts: &mut Vec<Front<J>>,
     pass: Pass,
-) -> Turned
+) -> MovedAndSeen
     requires numbers { AreNumbered doors.now }
     requires fronts { AreFronts doors.now fronts.old.items }
     requires tenant { pass.tenant < length doors.now }
@@ -114,7 +115,7 @@ pub(crate) fn commit<J: Naming, R: Wait>(
     pass: Pass,
     segment: Segment,
     view: &mut View,
-) -> Turned
+) -> MovedAndSeen
     requires numbers { AreNumbered doors.now }
     requires fronts { AreFronts doors.now fronts.old.items }
     requires tenant { pass.tenant < length doors.now }

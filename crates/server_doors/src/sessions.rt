@@ -15,7 +15,7 @@ use std::marker::Model;
 use std::sync::Wait;
 use tenant_book::{Front, Naming};
 use tenant_record::Seat;
-use worker_main::{DueDoor, Ringer, Signal};
+use worker_main::{Ringer, Signal, SlotAccess};
 
 /// One session's ways to the tenants behind locks. It has a seat of each tenant, and is at one slot
 /// at most: that of the job that it executes. It calls workers to the slots that become due. It can't be let go: at its
@@ -178,7 +178,7 @@ impl<'d, 'q, J: Naming, R: Wait, S: Signal> Doors for SessionDoors<'d, 'q, J, R,
             .position(|known| name.as_bytes() == known.as_bytes())
     }
 
-    fn bind(&mut self, tenant: usize) -> Result<(), Error> {
+    fn bind(&mut self, tenant: usize, _name: TenantName) -> Result<(), Error> {
         self.bound = tenant;
         Ok(())
     }

@@ -14,12 +14,12 @@ use std::cell::Cell;
 use std::marker::Model;
 use std::sync::Wait;
 use tenant_book::{Front, Naming};
-use tenant_lock::{StopFlag, TenantDoor, Turned};
+use tenant_lock::{MovedAndSeen, StopFlag, TenantDoor};
 use tenant_record::{Advanced, Arrived, AskOutcome, Pass, Seat};
-use worker_main::{CallDoors, DueDoor};
+use worker_main::{SlotAccess, WorkerAccess};
 
-/// A private run of fewer instructions is short: to run it away from the lock and to compare its frame and program under
-/// the lock takes longer than the run.
+/// A private run of fewer instructions is short: to run it away from the lock and to compare its frame and program
+/// under the lock takes longer than the run.
 pub const SHORT_RUN: u32 = 64;
 
 /// How many moves of a slot after a short run are advances under the lock, before the slot is looked at again.
@@ -28,8 +28,8 @@ pub const MOVES_UNDER_LOCK: u8 = 16;
 // The height that a door may have is the one that a tenant's slot may have.
 const _: () = prove!(nested_wait::MAX_HEIGHT == tenant_model::MAX_HEIGHT as usize);
 
-/// One thread's way to the slots of all tenants. It is at one slot at most, whose pass it has. It can't be let go: at its
-/// end the slot goes home (`HeldSlot::end`).
+/// One thread's way to the slots of all tenants. It is at one slot at most, whose pass it has. It can't be let go: at
+/// its end the slot goes home (`HeldSlot::end`).
 pub struct HeldSlot<'d, J: Naming, R: Wait> {
     rt: &'d R,
     doors: &'d [TenantDoor<J>],
@@ -62,8 +62,8 @@ impl<'d, J: Naming, R: Wait> Model for HeldSlot<'d, J, R> {
 
 impl<'d, J: Naming, R: Wait> HeldSlot<'d, J, R> {
     /// A thread that is at no slot. The doors are those of tenants 0, 1 and so on. If it waits for a job, it stops
-    /// once the flag is raised. At a slot it does not: whoever is there stays until the slot may be left. What it does goes
-    /// on from what the fronts have seen.
+    /// once the flag is raised. At a slot it does not: whoever is there stays until the slot may be left. What it does
+    /// goes on from what the fronts have seen.
     pub fn new(
         rt: &'d R,
         doors: &'d [TenantDoor<J>],
@@ -116,7 +116,7 @@ impl<'d, J: Naming, R: Wait> HeldSlot<'d, J, R> {
     }
 }
 
-impl<'d, J: Naming, R: Wait> DueDoor for HeldSlot<'d, J, R> {
+impl<'d, J: Naming, R: Wait> SlotAccess for HeldSlot<'d, J, R> {
     ghost use Rattle.std.specs.Prelude.{length, option_map};
     ghost use Rattle.server_doors.specs.SlotWays.{Commits, Moves, MayHaveHeight, MayBeSeen, Pauses, GoesHome, HandsOver};
 
@@ -166,7 +166,7 @@ impl<'d, J: Naming, R: Wait> DueDoor for HeldSlot<'d, J, R> {
         let tenant = pass.tenant();
         let (rt, doors) = (self.rt, self.doors);
         let is_short = segment.run().count < SHORT_RUN;
-        let Turned { advanced, height } = places::commit(
+        let MovedAndSeen { advanced, height } = places::commit(
             rt,
             doors,
             &mut self.fronts,
@@ -192,7 +192,7 @@ impl<'d, J: Naming, R: Wait> DueDoor for HeldSlot<'d, J, R> {
         self.under_lock = self.under_lock.saturating_sub(1);
         let fronts = &mut self.fronts;
         let has_looked = self.under_lock == 0;
-        let Turned { advanced, height } = if has_looked {
+        let MovedAndSeen { advanced, height } = if has_looked {
             places::advance_and_look(rt, doors, fronts, pass, self.view.get_mut())
         } else {
             places::advance_and_count(rt, doors, fronts, pass)
@@ -244,7 +244,7 @@ impl<'d, J: Naming, R: Wait> DueDoor for HeldSlot<'d, J, R> {
     }
 }
 
-impl<'d, J: Naming, R: Wait> CallDoors for HeldSlot<'d, J, R> {
+impl<'d, J: Naming, R: Wait> WorkerAccess for HeldSlot<'d, J, R> {
     ghost use Rattle.server_doors.specs.SlotWays.{ArrivesAt};
 
     ghost arrives = { ArrivesAt };

@@ -39,6 +39,11 @@ abbrev pub first_life : List DoorData → Option ℕ
 first_life [] = None
 first_life (d ∷ doors) = Some d.life
 
+-- the name of the first tenant behind these doors, if there is one
+abbrev pub first_name : List DoorData → Option (List ℕ)
+first_name [] = None
+first_name (d ∷ doors) = Some d.config.name
+
 -- Is it a seat of that tenant?
 abbrev pub is_of : ℕ → SeatData → Bool
 is_of tenant s = s.tenant == tenant

@@ -56,8 +56,8 @@ impl ClientSeats {
         self.seats.append(&mut seats)
     }
 
-    /// Closes the only tenant of a house with these seats, as `House::close_only` does: the asks in its history are those
-    /// that the seats noted, each of which its session made.
+    /// Closes the only tenant of a house with these seats, as `House::close_only` does: the asks in its history are
+    /// those that the seats noted, each of which its session made.
     pub fn close_only<J: Naming, R: Wait>(
         self,
         rt: &R,

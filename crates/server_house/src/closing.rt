@@ -14,8 +14,8 @@ use tenant_record::Seat;
 
 impl<J: Naming> House<J> {
     /// Closes all tenants, in order, each with its own seats of those that came back: its history, or what
-    /// is wrong. What was seen of a tenant's life begins the history that it closes with. It fails only if an allocation
-    /// failed, and then all tenants are given up.
+    /// is wrong. What was seen of a tenant's life begins the history that it closes with. It fails only if an
+    /// allocation failed, and then all tenants are given up.
     pub fn close<R: Wait>(
         self,
         rt: &R,

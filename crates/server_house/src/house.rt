@@ -1,8 +1,8 @@
 // What all threads of a server share.
-ghost use Rattle.std.specs.Prelude.{◌≡◌, ◌≤◌, ◌+◌, All, IfOk, length};
+ghost use Rattle.std.specs.Prelude.{◌≡◌, ◌≤◌, ◌+◌, All, IfOk, Some, length, true};
 ghost use Rattle.job_language.specs.Configuration.{names_of};
 ghost use Rattle.job_language.specs.Tenant.{IsValidTenant};
-ghost use Rattle.server_house.specs.Houses.{AreDoorsOf, first_life, seats_of};
+ghost use Rattle.server_house.specs.Houses.{AreDoorsOf, first_life, first_name, seats_of};
 ghost use Rattle.server_house.specs.Shared.{ArePassesOf};
 ghost use Rattle.tenant_lock.specs.Doors.{DoorData};
 ghost use Rattle.server_doors.specs.Slots.{AreFronts, AreNumbered};
@@ -64,8 +64,8 @@ pub struct Opened<J: Naming> {
 }
 
 impl<J: Naming> House<J> {
-    /// The house of a configuration's tenants, which have done nothing yet, for `connections` connections. Their lives are
-    /// entered in the registry.
+    /// The house of a configuration's tenants, which have done nothing yet, for `connections` connections. Their lives
+    /// are entered in the registry.
     pub fn open<R: Wait>(
         rt: &R,
         alloc: Global,
@@ -143,6 +143,16 @@ impl<J: Naming> House<J> {
     {
         let door = self.doors.first()?;
         Some(door.front().life())
+    }
+
+    /// Whether the first tenant has that name.
+    pub fn is_of(&self, name: TenantName) -> bool
+        ensures { result ≡ true → first_name self.now.doors ≡ Some name }
+    {
+        match self.names.first() {
+            Some(own) => own.as_bytes() == name.as_bytes(),
+            None => false,
+        }
     }
 
     /// What is known of each tenant's life to a thread that comes: a front of it, with nothing seen.

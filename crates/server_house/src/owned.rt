@@ -1,7 +1,7 @@
 // Places in a house whose threads come and go: each keeps the house alive.
-ghost use Rattle.std.specs.Prelude.{◌≡◌, All};
+ghost use Rattle.std.specs.Prelude.{◌≡◌, All, Some, true};
 ghost use Rattle.std.specs.Arc.{arc_value};
-ghost use Rattle.server_house.specs.Houses.{first_life};
+ghost use Rattle.server_house.specs.Houses.{first_life, first_name};
 ghost use Rattle.server_doors.specs.Slots.{AreFronts};
 ghost use Rattle.server_house.specs.Owned.{IsGivenBackByClient, ServesThere, client_of, post_of};
 ghost use Rattle.server_house.specs.Posts.{IsClient};
@@ -12,7 +12,7 @@ mod lodging;
 
 use crate::house::House;
 use call_queues::QueuePass;
-use job_language::Reply;
+use job_language::{Reply, TenantName};
 pub use lodging::Lodging;
 use nested_wait::Attended;
 use server_doors::HeldSlot;
@@ -73,7 +73,8 @@ impl<J: Naming> OwnPost<J> {
     }
 }
 
-/// Serves the first call at the slots of a house by a pass of its queues, which comes back, and says whether there was one.
+/// Serves the first call at the slots of a house by a pass of its queues, which comes back, and says whether there was
+/// one.
 fn serve_there<J: Naming, R: Wait, S: Signal, G: Gate>(
     rt: &R,
     house: &House<J>,
@@ -115,12 +116,23 @@ pub struct Told {
 }
 
 /// A pass of the queues of a house, and a seat of each of its tenants, by which a session asks.
-#[derive(Drop)]
 pub struct OwnClient<J: Naming> {
     house: Arc<House<J>>,
     pass: QueuePass,
     fronts: Vec<Front<J>>,
     seats: Vec<Seat>,
+}
+
+impl<J: Naming> Drop for OwnClient<J> {
+    // An owner drops it in one call, not part by part at each of its ways out.
+    fn drop(self) {
+        let OwnClient {
+            house: _house,
+            pass: _pass,
+            fronts: _fronts,
+            seats: _seats,
+        } = self;
+    }
 }
 
 impl<J: Naming> Model for OwnClient<J> {
@@ -159,6 +171,13 @@ impl<J: Naming> OwnClient<J> {
         ensures { result ≡ first_life self.now.post.house.doors }
     {
         self.house.first_life()
+    }
+
+    /// Whether the house's first tenant has that name.
+    pub fn is_of(&self, name: TenantName) -> bool
+        ensures { result ≡ true → first_name self.now.post.house.doors ≡ Some name }
+    {
+        self.house.is_of(name)
     }
 
     /// The seats, with what they noted of the asks.

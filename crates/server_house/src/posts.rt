@@ -128,8 +128,8 @@ impl<'h, J: Naming> Posts<'h, J> {
         })
     }
 
-    /// A post for a session, with a seat of each tenant. None if a pass or a seat is missing: no pass is taken then, and
-    /// the seats of the tenants before the one that has none are lost. An error takes nothing.
+    /// A post for a session, with a seat of each tenant. None if a pass or a seat is missing: no pass is taken then,
+    /// and the seats of the tenants before the one that has none are lost. An error takes nothing.
     pub fn next_client(
         &mut self,
         alloc: Global,

@@ -39,7 +39,8 @@ impl<J: Naming> Model for Returned<J> {
 }
 
 impl<J: Naming> Returned<J> {
-    /// No seats yet, with room for that many, and for as many fronts: a session has one of each tenant, as it has a seat.
+    /// No seats yet, with room for that many, and for as many fronts: a session has one of each tenant, as it has a
+    /// seat.
     pub fn with_room(alloc: Global, seats: usize) -> Result<Returned<J>, AllocError>
         ensures { IfOk result
             (λ returned. returned ≡ record { seats = []; fronts = []; is_short = false }) }
@@ -51,8 +52,8 @@ impl<J: Naming> Returned<J> {
         })
     }
 
-    /// Keeps seats that came back, and what was seen with them. If there is no memory for them they are lost, and from then on
-    /// some are missing.
+    /// Keeps seats that came back, and what was seen with them. If there is no memory for them they are lost, and from
+    /// then on some are missing.
     #[tactic(auto, using(crate::proofs::Seats::both_given_back, crate::proofs::Seats::before_given_back))]
     pub fn keep(&mut self, own: Vec<Seat>, seen: Vec<Front<J>>)
         requires { All (IsGivenBack seen.items) own.items }

@@ -22,7 +22,8 @@ use tenant_record::Seat;
 use worker_main::{Bell, Gate, Signal, Visiting, worker};
 
 /// Serves one client, and gives its session's end and the seats back, with what its asks were answered, or as they were
-/// if there was no memory for a session, and what it has seen of each tenant's history. It waits for no job once the flag is raised.
+/// if there was no memory for a session, and what it has seen of each tenant's history. It waits for no job once the
+/// flag is raised.
 pub fn serve_client<J: Naming, R: Wait, I: Source, O: Sink>(
     rt: &R,
     alloc: Global,
@@ -46,8 +47,8 @@ pub fn serve_client<J: Naming, R: Wait, I: Source, O: Sink>(
     (end, seats, fronts)
 }
 
-/// Serves one client after another by doors that stay: the next one, whose session's end it gives. Then the doors are at
-/// no slot, and can serve the one after it. An error has read and written nothing.
+/// Serves one client after another by doors that stay: the next one, whose session's end it gives. Then the doors are
+/// at no slot, and can serve the one after it. An error has read and written nothing.
 pub fn serve_next<J: Naming, R: Wait, I: Source, O: Sink>(
     alloc: Global,
     reader: &mut I,

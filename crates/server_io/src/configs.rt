@@ -1,9 +1,9 @@
 // The configuration of a server, from the bytes of its file.
 ghost use Rattle.std.specs.Prelude.{◌≡◌, ◌≤◌, ◌⊎◌, ◌<◌, Some, None, Err, IfErr, IfOk, length};
-ghost use Rattle.server_io.specs.declared.ends.ServerEnd.TheVariants as end;
+ghost use Rattle.server_io.specs.declared.ends.ServerFault.TheVariants as end;
 ghost use Rattle.market_config.specs.Lines.{config_in};
 
-use crate::ends::ServerEnd;
+use crate::ends::ServerFault;
 use job_language::Config;
 use market_config::config_in;
 use std::alloc::Global;
@@ -14,7 +14,7 @@ pub const MAX_CONFIG: usize = 1_048_576;
 const _: () = prove!(MAX_CONFIG == 1_048_576);
 
 /// The configuration that a file holds. `Config` if it is too long or holds none, and `Memory` if an allocation fails.
-pub fn config_of(alloc: Global, bytes: &[u8]) -> Result<Config, ServerEnd>
+pub fn config_of(alloc: Global, bytes: &[u8]) -> Result<Config, ServerFault>
     ensures config { IfOk result (λ config. config_in bytes.now ≡ Some config) }
     ensures short { IfOk result (λ config. length bytes.now ≤ MAX_CONFIG) }
     ensures none { result ≡ Err end.Config
@@ -22,10 +22,10 @@ pub fn config_of(alloc: Global, bytes: &[u8]) -> Result<Config, ServerEnd>
     ensures fault { IfErr result (λ fault. (fault ≡ end.Config) ⊎ (fault ≡ end.Memory)) }
 {
     if bytes.len() > MAX_CONFIG {
-        return Err(ServerEnd::Config);
+        return Err(ServerFault::Config);
     }
     match config_in(alloc, bytes)? {
         Some(config) => Ok(config),
-        None => Err(ServerEnd::Config),
+        None => Err(ServerFault::Config),
     }
 }

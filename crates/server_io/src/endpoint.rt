@@ -76,9 +76,9 @@ pub struct Endpoint<'p> {
 }
 
 impl<'p> Endpoint<'p> {
-    /// Listens at a path, for those who have access. The socket is made in a folder that nobody else has made, which its
-    /// owner alone may enter, and stands at the path once its mode and group are set. At a fault nothing of it is left,
-    /// and what else is at the path, or beside it, stays.
+    /// Listens at a path, for those who have access. The socket is made in a folder that nobody else has made, which
+    /// its owner alone may enter, and stands at the path once its mode and group are set. At a fault nothing of it is
+    /// left, and what else is at the path, or beside it, stays.
     pub fn bind<R: Files + Net>(
         rt: &R,
         alloc: Global,
@@ -135,7 +135,8 @@ fn is_nothing(fault: &io::Error) -> bool
     matches!(fault.kind(), ErrorKind::NotFound | ErrorKind::NotADirectory)
 }
 
-/// Makes a socket in a room, and lets the path lead to it too. It is there only if that is the very socket that was made.
+/// Makes a socket in a room, and lets the path lead to it too. It is there only if that is the very socket that was
+/// made.
 fn bind_within<'p, R: Files + Net>(
     rt: &R,
     room: &Room,

@@ -10,5 +10,5 @@ mod watching;
 
 pub use configs::{MAX_CONFIG, config_of};
 pub use endpoint::{Access, BindFault, Endpoint};
-pub use ends::ServerEnd;
+pub use ends::{ServerEnd, ServerFault, exit_status};
 pub use watching::Watch;

@@ -43,8 +43,8 @@ pub(crate) struct Room {
 }
 
 impl Room {
-    /// Makes a folder beside a path, which its owner alone may enter: `PATH.d`, or `PATH.d2` and so on up to 64 if that is
-    /// taken. What is there already, a symbolic link too, is neither used nor removed. `NoRoom` if all are taken.
+    /// Makes a folder beside a path, which its owner alone may enter: `PATH.d`, or `PATH.d2` and so on up to 64 if that
+    /// is taken. What is there already, a symbolic link too, is neither used nor removed. `NoRoom` if all are taken.
     pub(crate) fn make<R: Files>(rt: &R, alloc: Global, path: &str) -> Result<Room, BindFault>
         ensures room { IfOk result (λ room. (number : ℕ) × (1 ≤ number) × (number ≤ 64)
             × (string_bytes room.folder ≡ room_at path.now number)) }

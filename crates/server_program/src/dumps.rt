@@ -1,12 +1,12 @@
 // Where the histories of a server's tenants are kept.
 ghost use Rattle.std.specs.Prelude.{◌≡◌, ◌⊎◌, IfErr, IfOk, string_bytes};
-ghost use Rattle.server_io.specs.declared.ends.ServerEnd.TheVariants.{Device, Memory};
+ghost use Rattle.server_io.specs.declared.ends.ServerFault.TheVariants.{Device, Memory};
 ghost use Rattle.server_program.specs.Dumps.{dump_at, end_of_dump};
 
 use dump_files::can_dump;
 use dump_lines::DumpFault;
 use job_language::TenantConfig;
-use server_io::ServerEnd;
+use server_io::ServerFault;
 use std::alloc::Global;
 use std::fs::Files;
 
@@ -16,7 +16,7 @@ pub(crate) fn try_folder<R: Files>(
     alloc: Global,
     folder: &str,
     configs: &[TenantConfig],
-) -> Result<(), ServerEnd>
+) -> Result<(), ServerFault>
     ensures { IfErr result (λ end. (end ≡ Device) ⊎ (end ≡ Memory)) }
 {
     for config in configs {
@@ -31,7 +31,7 @@ pub(crate) fn dump_path(
     alloc: Global,
     folder: &str,
     config: &TenantConfig,
-) -> Result<String, ServerEnd>
+) -> Result<String, ServerFault>
     ensures path { IfOk result (λ path. string_bytes path ≡ dump_at folder.now config.now.name) }
     ensures fault { IfErr result (λ end. end ≡ Memory) }
 {
@@ -40,11 +40,11 @@ pub(crate) fn dump_path(
 }
 
 /// What a dump that was not written is for the server.
-pub(crate) fn end_at(fault: DumpFault) -> ServerEnd
+pub(crate) fn end_at(fault: DumpFault) -> ServerFault
     ensures { result ≡ end_of_dump fault }
 {
     match fault {
-        DumpFault::Memory => ServerEnd::Memory,
-        DumpFault::Device | DumpFault::NoEntry => ServerEnd::Device,
+        DumpFault::Memory => ServerFault::Memory,
+        DumpFault::Device | DumpFault::NoEntry => ServerFault::Device,
     }
 }

@@ -7,7 +7,7 @@ use crate::dumps::{dump_path, end_at};
 use dump_files::dump_history;
 use job_language::TenantConfig;
 use server_house::{House, Returned};
-use server_io::ServerEnd;
+use server_io::{ServerEnd, ServerFault};
 use std::alloc::Global;
 use std::fs::Files;
 use std::io;
@@ -23,7 +23,7 @@ pub(crate) fn close_tenants<J: Naming, R: Files + Print + Wait>(
     returned: Returned<J>,
     configs: &[TenantConfig],
     folder: Option<&str>,
-) -> Result<ServerEnd, ServerEnd>
+) -> Result<ServerEnd, ServerFault>
     requires { AreDoorsOf configs.now house.doors }
     ensures { IfOk result (λ end. EndsAs house.doors returned end) }
 {
@@ -41,7 +41,7 @@ fn report_ends<R: Files + Print>(
     ends: &[Result<Closed, CloseFault>],
     configs: &[TenantConfig],
     folder: Option<&str>,
-) -> Option<ServerEnd>
+) -> Option<ServerFault>
     requires { AreOwnEnds configs.now ends.now }
 {
     let ([end, ends @ ..], [config, configs @ ..]) = (ends, configs) else {
@@ -59,7 +59,7 @@ fn report_end<R: Files + Print>(
     end: &Result<Closed, CloseFault>,
     config: &TenantConfig,
     folder: Option<&str>,
-) -> Result<(), ServerEnd>
+) -> Result<(), ServerFault>
     requires { IsOwnEnd config.now end.now }
 {
     let is_printed = print_end(rt, end, config).is_ok();
@@ -71,7 +71,7 @@ fn report_end<R: Files + Print>(
     if is_printed {
         Ok(())
     } else {
-        Err(ServerEnd::Device)
+        Err(ServerFault::Device)
     }
 }
 

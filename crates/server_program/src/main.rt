@@ -3,7 +3,8 @@
 
 ghost use Rattle.std.specs.Prelude.{◌≡◌, ◌≢◌, ◌≤◌, ◌⊎◌, Err, IfErr, IfSome, IsErr, IsOk, None, Ok};
 ghost use Rattle.std.specs.IoError.{error_kind};
-ghost use Rattle.server_io.specs.declared.ends.ServerEnd.TheVariants.{Device, Done, Memory, Words};
+ghost use Rattle.server_io.specs.declared.ends.ServerEnd.TheVariants.{Done};
+ghost use Rattle.server_io.specs.declared.ends.ServerFault.TheVariants.{Device, Memory, Words};
 
 mod dumps;
 mod ends;
@@ -14,7 +15,7 @@ use job_language::Config;
 use program_version::{asks_version, print_version};
 use program_words::{ServerWords, WordsFault, read_server_words};
 use server_house::{House, Opened};
-use server_io::{Access, Endpoint, MAX_CONFIG, ServerEnd, config_of};
+use server_io::{Access, Endpoint, MAX_CONFIG, ServerEnd, ServerFault, config_of, exit_status};
 use socket_server::{Served, serve_connections};
 use std::alloc::Global;
 use std::env::Env;
@@ -30,14 +31,14 @@ use tenant_book::{Naming, OpenedRegistry, Registry};
 
 fn main(rt: HostRuntime) -> ExitCode {
     let end = match words_of(&rt) {
-        Ok(words) => end_of(&rt, words.as_slice()),
-        Err(fault) => unread_end(&fault),
+        Ok(words) => serve_words(&rt, words.as_slice()),
+        Err(fault) => Err(unread(&fault)),
     };
-    if let Some(fault) = end.fault() {
+    if let Err(fault) = end {
         // The status tells of the fault even if standard error takes nothing.
-        let _ = rt.eprintln(fault);
+        let _ = rt.eprintln(fault.text());
     }
-    ExitCode::from(end.status())
+    ExitCode::from(exit_status(end))
 }
 
 /// The words that the program was called with, its name first.
@@ -49,35 +50,26 @@ fn words_of<R: Env + AllocGlobal>(rt: &R) -> io::Result<Vec<String>> {
     Ok(words)
 }
 
-/// How a server ends whose words could not be read: one is no text, or an allocation failed.
-fn unread_end(fault: &io::Error) -> ServerEnd
+/// Why words could not be read: one is no text, or an allocation failed.
+fn unread(fault: &io::Error) -> ServerFault
     ensures words { error_kind fault.now ≡ ErrorKind.InvalidData → result ≡ Words }
     ensures memory { error_kind fault.now ≢ ErrorKind.InvalidData → result ≡ Memory }
 {
     match fault.kind() {
-        ErrorKind::InvalidData => ServerEnd::Words,
-        _ => ServerEnd::Memory,
+        ErrorKind::InvalidData => ServerFault::Words,
+        _ => ServerFault::Memory,
     }
 }
 
-fn end_of<R>(rt: &R, words: &[String]) -> ServerEnd
-where
-    R: Files + Net + Threads + Wait + Sync + Print + Eprint + AllocGlobal,
-{
-    match serve_words(rt, words) {
-        Ok(end) => end,
-        Err(end) => end,
-    }
-}
-
-fn serve_words<R>(rt: &R, words: &[String]) -> Result<ServerEnd, ServerEnd>
+/// Does what the words say that the program was called with.
+fn serve_words<R>(rt: &R, words: &[String]) -> Result<ServerEnd, ServerFault>
 where
     R: Files + Net + Threads + Wait + Sync + Print + Eprint + AllocGlobal,
 {
     let mut texts = Vec::new(rt.alloc());
     for word in words {
         if texts.push(word.as_str()).is_err() {
-            return Err(ServerEnd::Memory);
+            return Err(ServerFault::Memory);
         }
     }
     if let [_name, words @ ..] = texts.as_slice()
@@ -87,39 +79,39 @@ where
     }
     let words = match read_server_words(rt.alloc(), texts.as_slice()) {
         Ok(words) => words,
-        Err(fault) => return Err(words_end(fault)),
+        Err(fault) => return Err(words_fault(fault)),
     };
     // Dumps in a folder without a name would go to the root.
     if let Some("") = words.dump {
-        return Err(ServerEnd::Words);
+        return Err(ServerFault::Words);
     }
     serve_tenants(rt, words)
 }
 
 /// How a server ends that only told what it is.
-fn told(printed: io::Result<()>) -> Result<ServerEnd, ServerEnd>
+fn told(printed: io::Result<()>) -> Result<ServerEnd, ServerFault>
     ensures done { IsOk printed → result ≡ Ok Done }
     ensures device { IsErr printed → result ≡ Err Device }
 {
     match printed {
         Ok(()) => Ok(ServerEnd::Done),
-        Err(_) => Err(ServerEnd::Device),
+        Err(_) => Err(ServerFault::Device),
     }
 }
 
-/// How a server ends whose words it does not know.
-fn words_end(fault: WordsFault) -> ServerEnd
+/// Why a server can't serve that does not know its words.
+fn words_fault(fault: WordsFault) -> ServerFault
     ensures words { fault ≡ WordsFault.Words → result ≡ Words }
     ensures memory { fault ≡ WordsFault.Memory → result ≡ Memory }
 {
     match fault {
-        WordsFault::Words => ServerEnd::Words,
-        WordsFault::Memory => ServerEnd::Memory,
+        WordsFault::Words => ServerFault::Words,
+        WordsFault::Memory => ServerFault::Memory,
     }
 }
 
 /// Reads the configuration, serves its tenants, and closes them. Their histories are those of one registry.
-fn serve_tenants<R>(rt: &R, words: ServerWords<'_>) -> Result<ServerEnd, ServerEnd>
+fn serve_tenants<R>(rt: &R, words: ServerWords<'_>) -> Result<ServerEnd, ServerFault>
 where
     R: Files + Net + Threads + Wait + Sync + Print + Eprint + AllocGlobal,
     requires { 1 ≤ words.connections }
@@ -137,7 +129,7 @@ fn serve_named<J: Naming + Send + Sync, R>(
     opened: OpenedRegistry,
     config: &Config,
     words: ServerWords<'_>,
-) -> Result<ServerEnd, ServerEnd>
+) -> Result<ServerEnd, ServerFault>
 where
     R: Files + Net + Threads + Wait + Sync + Print + Eprint,
     requires registry { opened ≡ J.registry }
@@ -171,9 +163,9 @@ where
 
 /// How a server ends that closed its tenants like that, after a fault or without one.
 fn first_fault(
-    fault: Option<ServerEnd>,
-    closed: Result<ServerEnd, ServerEnd>,
-) -> Result<ServerEnd, ServerEnd>
+    fault: Option<ServerFault>,
+    closed: Result<ServerEnd, ServerFault>,
+) -> Result<ServerEnd, ServerFault>
     ensures fault { IfSome fault (λ first. result ≡ Err first) }
     ensures none { fault ≡ None → result ≡ closed }
 {
@@ -188,7 +180,7 @@ fn listen<'p, R: Files + Net + Eprint>(
     rt: &R,
     alloc: Global,
     path: &'p str,
-) -> Result<Endpoint<'p>, ServerEnd>
+) -> Result<Endpoint<'p>, ServerFault>
     ensures { IfErr result (λ end. (end ≡ Device) ⊎ (end ≡ Memory)) }
 {
     match Endpoint::bind(rt, alloc, path, Access::OWNER) {
@@ -198,18 +190,18 @@ fn listen<'p, R: Files + Net + Eprint>(
                 // The status tells of the fault even if standard error takes nothing.
                 let _ = eprintln!(rt; "arena-server: {path}: {why}");
             }
-            Err(ServerEnd::from(fault))
+            Err(ServerFault::from(fault))
         }
     }
 }
 
 /// The bytes of a configuration's file, one more than it may have at most.
-fn config_bytes<R: Files + AllocGlobal>(rt: &R, path: &str) -> Result<Vec<u8>, ServerEnd>
+fn config_bytes<R: Files + AllocGlobal>(rt: &R, path: &str) -> Result<Vec<u8>, ServerFault>
     ensures { IfErr result (λ end. (end ≡ Device) ⊎ (end ≡ Memory)) }
 {
     let mut bytes = Vec::new(rt.alloc());
     let Ok(file) = File::open(rt, path) else {
-        return Err(ServerEnd::Device);
+        return Err(ServerFault::Device);
     };
     match file.take(MAX_CONFIG as u64 + 1).read_to_end(&mut bytes) {
         Ok(_) => Ok(bytes),
@@ -218,12 +210,12 @@ fn config_bytes<R: Files + AllocGlobal>(rt: &R, path: &str) -> Result<Vec<u8>, S
 }
 
 /// How a server ends whose configuration could not be read.
-fn read_end(fault: &io::Error) -> ServerEnd
+fn read_end(fault: &io::Error) -> ServerFault
     ensures memory { error_kind fault.now ≡ ErrorKind.OutOfMemory → result ≡ Memory }
     ensures device { error_kind fault.now ≢ ErrorKind.OutOfMemory → result ≡ Device }
 {
     match fault.kind() {
-        ErrorKind::OutOfMemory => ServerEnd::Memory,
-        _ => ServerEnd::Device,
+        ErrorKind::OutOfMemory => ServerFault::Memory,
+        _ => ServerFault::Device,
     }
 }

@@ -9,9 +9,9 @@ use Rattle.session_core.specs.declared.doors.Answered.{Answered}
 abbrev pub Finds : Type 0 → Type 1
 Finds D = D → List ℕ → Option ℕ → Type 0
 
--- binding a tenant, or the error of a hello that is refused
+-- binding a tenant, by its number and its name, or the error of a hello that is refused
 abbrev pub Binds : Type 0 → Type 1
-Binds D = D → ℕ → Result (Unit {0}) Error → D → Type 0
+Binds D = D → ℕ → List ℕ → Result (Unit {0}) Error → D → Type 0
 
 abbrev pub Asks : Type 0 → Type 1
 Asks D = D → Request → Answered → D → Type 0

@@ -22,8 +22,8 @@ hello_in asked = None
 
 -- a hello whose tenant was found, by how binding it was answered. The doors' error is the reply, and leaves the session as it was
 abbrev pub GreetsBinding : {D : Type 0} → Binds D → (name : List ℕ) → (tenant : ℕ) → (answer : Result (Unit {0}) Error) → D → Reply → Bool × D → Type 0
-GreetsBinding {D = D} binds name tenant (Ok u) d r t = (r ≡ Bound name) × (t.0 ≡ true) × binds d tenant (Ok u) t.1
-GreetsBinding {D = D} binds name tenant (Err error) d r t = (r ≡ Refused error) × (t ≡ (false, d)) × binds d tenant (Err error) d
+GreetsBinding {D = D} binds name tenant (Ok u) d r t = (r ≡ Bound name) × (t.0 ≡ true) × binds d tenant name (Ok u) t.1
+GreetsBinding {D = D} binds name tenant (Err error) d r t = (r ≡ Refused error) × (t ≡ (false, d)) × binds d tenant name (Err error) d
 
 -- a hello on a session that is not bound, after the tenant was looked for
 abbrev pub GreetsFound : {D : Type 0} → Binds D → (name : List ℕ) → (tenant : Option ℕ) → D → Reply → Bool × D → Type 0

@@ -25,7 +25,7 @@ pub trait Doors: Door {
     ghost finds: { Self → List ℕ → Option ℕ → Type 0 };
 
     /// What binding a tenant may answer and lead to.
-    ghost binds: { Self → ℕ → Result (Unit {0}) Error → Self → Type 0 };
+    ghost binds: { Self → ℕ → List ℕ → Result (Unit {0}) Error → Self → Type 0 };
 
     /// What a request with this answer may lead to.
     ghost asks: { Self → Request → Answered → Self → Type 0 };
@@ -37,10 +37,10 @@ pub trait Doors: Door {
     fn find(&self, name: TenantName) -> Option<usize>
         ensures { finds self.now name result };
 
-    /// Binds the session to a tenant. Requests are asked of it from then on. The error is the reply to
-    /// a hello that is refused, which leaves the session as it was.
-    fn bind(&mut self, tenant: usize) -> Result<(), Error>
-        ensures binds { binds self.old tenant result self.new }
+    /// Binds the session to a tenant, which was found by that name. Requests are asked of it from then on. The error is
+    /// the reply to a hello that is refused, which leaves the session as it was.
+    fn bind(&mut self, tenant: usize, name: TenantName) -> Result<(), Error>
+        ensures binds { binds self.old tenant name result self.new }
         ensures refused { OnErr result (self.new ≡ self.old) };
 
     /// Asks the tenant that is bound.

@@ -63,7 +63,7 @@ fn greet<D: Doors>(doors: &mut D, is_bound: &mut bool, name: Option<TenantName>)
         return Reply::Refused(Error::UnknownTenant);
     };
     match doors.find(name) {
-        Some(tenant) => match doors.bind(tenant) {
+        Some(tenant) => match doors.bind(tenant, name) {
             Ok(()) => {
                 *is_bound = true;
                 Reply::Bound(name)

@@ -22,8 +22,8 @@ pub served_at : (d e : ArenaDoors) (ts : Tenants) (bytes left written out : Opti
 served_at d e ts bytes left written out how at is =
     let one = replies AreAt Finds Binds Asks Waits (Attends (Turn Sees Commits Advances) IsAsHigh Pauses 1) FindsTenant BindsTenant AsksTenant WaitsForJob AttendsSlot
     (λ d x name t at finds. finds x at)
-    (λ d e x t u at binds. binds x at)
-    (λ d x t error at binds. absurd (binds x at).1.0)
+    (λ d e x t name u at binds. binds x at)
+    (λ d x t name error at binds. absurd (binds x at).1.0)
     (λ d e x q a at asks. asks x at)
     (λ d e x job stops at waits. (x, ((waits.0, refl), subst (λ f. AreAt f x) (sym waits.1) at)))
     (λ d e x how at attends. attends_at d e x how at attends) in

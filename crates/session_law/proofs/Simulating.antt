@@ -31,8 +31,8 @@ Both {D = D} {E = E} at s t = (t.0 ≡ s.0) × at s.1 t.1
 module _ {D E : Type 0} (at : D → E → Type 0) (finds : Finds D) (binds : Binds D) (asks : Asks D) (waits : Waits D) (attends : AttendsTo D) (finds_by : Finds E) (binds_by : Binds E) (asks_by : Asks E)
     (waits_by : Waits E) (attends_by : AttendsTo E)
     (found : (d : D) (x : E) (name : List ℕ) (t : Option ℕ) → at d x → finds d name t → finds_by x name t)
-    (bound : (d e : D) (x : E) (t : ℕ) (u : Unit {0}) → at d x → binds d t (Ok u) e → (y : E) × (binds_by x t (Ok u) y × at e y))
-    (unbound : (d : D) (x : E) (t : ℕ) (error : Error) → at d x → binds d t (Err error) d → binds_by x t (Err error) x)
+    (bound : (d e : D) (x : E) (t : ℕ) (name : List ℕ) (u : Unit {0}) → at d x → binds d t name (Ok u) e → (y : E) × (binds_by x t name (Ok u) y × at e y))
+    (unbound : (d : D) (x : E) (t : ℕ) (name : List ℕ) (error : Error) → at d x → binds d t name (Err error) d → binds_by x t name (Err error) x)
     (asked : (d e : D) (x : E) (q : Request) (a : Answered) → at d x → asks d q a e → (y : E) × (asks_by x q a y × at e y))
     (waited : (d e : D) (x : E) (job : ℕ) (stops : Bool) → at d x → waits d job stops e → (y : E) × (waits_by x job stops y × at e y))
     (attended : (d e : D) (x : E) (how : Attended) → at d x → attends how d e → (y : E) × (attends_by how x y × at e y)) where
@@ -121,9 +121,9 @@ module _ {D E : Type 0} (at : D → E → Type 0) (finds : Finds D) (binds : Bin
   greets_binding : (name : List ℕ) (n : ℕ) (answer : Result (Unit {0}) Error) (d : D) (x : E) (r : Reply) (u : Bool × D) → at d x → GreetsBinding binds name n answer d r u →
       (v : Bool × E) × (GreetsBinding binds_by name n answer x r v × Both at u v)
   greets_binding name n (Ok a) d x r u is g =
-      let next = bound d u.1 x n a is g.2 in
+      let next = bound d u.1 x n name a is g.2 in
       ((true, next.0), ((g.0, refl, next.1.0), (sym g.1, next.1.1)))
-  greets_binding name n (Err error) d x r u is g = ((false, x), ((g.0, refl, unbound d x n error is g.2), stays (false, d) u (false, x) (refl, is) g.1))
+  greets_binding name n (Err error) d x r u is g = ((false, x), ((g.0, refl, unbound d x n name error is g.2), stays (false, d) u (false, x) (refl, is) g.1))
 
   greets_found : (name : List ℕ) (tenant : Option ℕ) (d : D) (x : E) (r : Reply) (u : Bool × D) → at d x → GreetsFound binds name tenant d r u →
       (v : Bool × E) × (GreetsFound binds_by name tenant x r v × Both at u v)

@@ -34,8 +34,8 @@ Does happens d e = (ts : Tenants) → AreAt d ts → (us : Tenants) × (happens 
 abbrev pub Finds : ArenaDoors → (name : List ℕ) → Option ℕ → Type 0
 Finds d name tenant = (ts : Tenants) → AreAt d ts → FindsTenant ts name tenant
 
-abbrev pub Binds : ArenaDoors → (tenant : ℕ) → Result (Unit {0}) Error → ArenaDoors → Type 0
-Binds d tenant answer e = Does (λ ts us. BindsTenant ts tenant answer us) d e
+abbrev pub Binds : ArenaDoors → (tenant : ℕ) → (name : List ℕ) → Result (Unit {0}) Error → ArenaDoors → Type 0
+Binds d tenant name answer e = Does (λ ts us. BindsTenant ts tenant name answer us) d e
 
 abbrev pub Asks : ArenaDoors → Request → Answered → ArenaDoors → Type 0
 Asks d request a e = Does (λ ts us. AsksTenant ts request a us) d e

@@ -41,9 +41,9 @@ FindsTenant ts name None = IsNoneBefore ts.states name (length ts.states)
 FindsTenant ts name (Some t) = ((s : State) × ((slice_get ts.states t ≡ Some s) × (s.config.name ≡ name))) × IsNoneBefore ts.states name t
 
 -- A session is bound to any tenant that it asks for.
-abbrev pub BindsTenant : Tenants → (tenant : ℕ) → Result (Unit {0}) Error → Tenants → Type 0
-BindsTenant ts tenant (Ok u) us = us ≡ record ts { bound = tenant }
-BindsTenant ts tenant (Err error) us = ⊥
+abbrev pub BindsTenant : Tenants → (tenant : ℕ) → (name : List ℕ) → Result (Unit {0}) Error → Tenants → Type 0
+BindsTenant ts tenant name (Ok u) us = us ≡ record ts { bound = tenant }
+BindsTenant ts tenant name (Err error) us = ⊥
 
 -- the answer with this reply
 abbrev pub answered : Reply → Answered

@@ -103,7 +103,7 @@ impl Doors for ArenaDoors {
         None
     }
 
-    fn bind(&mut self, tenant: usize) -> Result<(), Error> {
+    fn bind(&mut self, tenant: usize, _name: TenantName) -> Result<(), Error> {
         self.tenant = tenant;
         Ok(())
     }

@@ -3,7 +3,7 @@ ghost use Rattle.std.specs.Prelude.{◌≡◌, ◌⊎◌, ◌+◌, ◌-◌, true
 
 use crate::connections::Connection;
 use server_house::{Client, FreshSeats, House, Posts};
-use server_io::{Endpoint, ServerEnd, Watch};
+use server_io::{Endpoint, ServerFault, Watch};
 use std::alloc::{AllocError, Global};
 use std::fs::Files;
 use std::os::unix::net::UnixStream;
@@ -35,7 +35,7 @@ pub(crate) struct Reception<'h, J: Naming> {
     /// How many connections are still to be accepted.
     left: u8,
     /// The first fault.
-    fault: Option<ServerEnd>,
+    fault: Option<ServerFault>,
     /// Once the server stops: how many quiet ticks are left until it cuts the connections off.
     patience: Option<u8>,
 }
@@ -82,7 +82,7 @@ impl<'h, J: Naming> Reception<'h, J> {
     {
         let left = self.left.checked_sub(1)?;
         let Ok(accepted) = endpoint.accept() else {
-            self.fail(ServerEnd::Device);
+            self.fail(ServerFault::Device);
             return None;
         };
         match self.admit_stream(alloc, accepted?) {
@@ -90,8 +90,8 @@ impl<'h, J: Naming> Reception<'h, J> {
                 self.left = left;
                 return Some(admitted);
             }
-            Ok(None) => self.fail(ServerEnd::Device),
-            Err(_) => self.fail(ServerEnd::Memory),
+            Ok(None) => self.fail(ServerFault::Device),
+            Err(_) => self.fail(ServerFault::Memory),
         }
         None
     }
@@ -130,7 +130,7 @@ impl<'h, J: Naming> Reception<'h, J> {
     }
 
     /// Notes a fault, if it is the first.
-    pub(crate) fn note(&mut self, fault: ServerEnd)
+    pub(crate) fn note(&mut self, fault: ServerFault)
         ensures first { IsSome self.old.fault → self.new.fault ≡ self.old.fault }
         ensures noted { self.old.fault ≡ None → self.new.fault ≡ Some fault }
         ensures left { self.new.left ≡ self.old.left }
@@ -139,7 +139,7 @@ impl<'h, J: Naming> Reception<'h, J> {
     }
 
     /// Accepts no more connections, for a fault.
-    fn fail(&mut self, fault: ServerEnd)
+    fn fail(&mut self, fault: ServerFault)
         ensures first { IsSome self.old.fault → self.new.fault ≡ self.old.fault }
         ensures noted { self.old.fault ≡ None → self.new.fault ≡ Some fault }
         ensures left { self.new.left ≡ 0 }
@@ -149,7 +149,7 @@ impl<'h, J: Naming> Reception<'h, J> {
     }
 
     /// The last connection has no thread, for a fault: it ends, and no more are accepted.
-    pub(crate) fn lose_last(&mut self, fault: ServerEnd)
+    pub(crate) fn lose_last(&mut self, fault: ServerFault)
         ensures first { IsSome self.old.fault → self.new.fault ≡ self.old.fault }
         ensures noted { self.old.fault ≡ None → self.new.fault ≡ Some fault }
         ensures left { self.new.left ≡ 0 }
@@ -176,7 +176,7 @@ impl<'h, J: Naming> Reception<'h, J> {
         endpoint: &Endpoint<'_>,
     ) {
         if self.watch.wait(Duration::from_millis(TICK)).is_err() {
-            self.fail(ServerEnd::Device);
+            self.fail(ServerFault::Device);
             self.stop(rt, house);
         }
         if self.raise_gone() {
@@ -234,7 +234,7 @@ impl<'h, J: Naming> Reception<'h, J> {
     }
 
     /// The seats that no session took, and the first fault.
-    pub(crate) fn into_rest(self) -> (FreshSeats, Option<ServerEnd>)
+    pub(crate) fn into_rest(self) -> (FreshSeats, Option<ServerFault>)
         ensures seats { result.0 ≡ self.entry.seats }
         ensures fault { result.1 ≡ self.entry.fault }
     {

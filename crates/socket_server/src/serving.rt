@@ -1,7 +1,6 @@
 // All threads of a server.
-ghost use Rattle.std.specs.Prelude.{◌≡◌, ◌≢◌, ◌⊎◌, true, false, All, IfErr, IfOk, IsSome, None};
-ghost use Rattle.std.specs.IoError.{error_kind};
-ghost use Rattle.server_io.specs.declared.ends.ServerEnd.TheVariants.{Device, Memory};
+ghost use Rattle.std.specs.Prelude.{◌≡◌, ◌⊎◌, true, false, All, IfErr, IfOk, IsSome, None};
+ghost use Rattle.server_io.specs.declared.ends.ServerFault.TheVariants.{Device, Memory};
 ghost use Rattle.std.specs.Thread.{IsSend};
 ghost use Rattle.server_house.specs.Returned.{IsGivenBack};
 ghost use Rattle.server_house.specs.Shared.{ArePassesOf};
@@ -11,7 +10,7 @@ use crate::reception::{Admitted, Reception};
 use call_queues::QueuePass;
 use mio::Waker;
 use server_house::{Client, FreshSeats, House, Posts, Returned, serve_calls, serve_client};
-use server_io::{Endpoint, ServerEnd, Watch};
+use server_io::{Endpoint, ServerFault, Watch};
 use std::alloc::Global;
 use std::fs::Files;
 use std::io::ErrorKind;
@@ -29,12 +28,12 @@ pub struct Served<J: Naming> {
     pub returned: Returned<J>,
     /// The first fault: `listening` could not be printed, a connection could not be accepted or have its thread, or a
     /// seat was lost for lack of memory.
-    pub fault: Option<ServerEnd>,
+    pub fault: Option<ServerFault>,
 }
 
 impl<J: Naming> Served<J> {
     /// The end after that fault. Without one it is a fault that a seat was lost.
-    fn new(returned: Returned<J>, fault: Option<ServerEnd>) -> Served<J>
+    fn new(returned: Returned<J>, fault: Option<ServerFault>) -> Served<J>
         ensures first { IsSome fault → result.fault ≡ fault }
         ensures none { fault ≡ None → returned.is_short ≡ false → result.fault ≡ None }
         ensures given_back { All (IsGivenBack result.returned.fronts) result.returned.seats }
@@ -42,7 +41,7 @@ impl<J: Naming> Served<J> {
     {
         let is_short = returned.is_short();
         let fault = match fault {
-            None if is_short => Some(ServerEnd::Memory),
+            None if is_short => Some(ServerFault::Memory),
             first => first,
         };
         Served { returned, fault }
@@ -64,7 +63,7 @@ pub fn serve_connections<J: Naming + Send + Sync, R: Threads + Wait + Files + Ne
     endpoint: &Endpoint<'_>,
     workers: usize,
     connections: u8,
-) -> Result<Served<J>, ServerEnd>
+) -> Result<Served<J>, ServerFault>
     requires { ArePassesOf house.now.queues.queues passes.items }
     ensures fault { IfErr result (λ end. (end ≡ Device) ⊎ (end ≡ Memory)) }
     ensures given_back { IfOk result (λ served. All (IsGivenBack served.returned.fronts) served.returned.seats) }
@@ -73,7 +72,9 @@ pub fn serve_connections<J: Naming + Send + Sync, R: Threads + Wait + Files + Ne
     let posts = Posts::new(house, passes);
     let returned = Mutex::new(Returned::with_room(alloc, seats.len())?);
     let waiting = Mutex::new(Vec::with_capacity(alloc, usize::from(connections))?);
-    let (watch, waker) = Watch::new(rt, alloc, endpoint, connections).map_err(end_of)?;
+    let (watch, waker) = Watch::new(rt, alloc, endpoint, connections).map_err(
+        ServerFault::of_system,
+    )?;
     let back = &returned;
     let served = thread::scope(
         thread::scope_env(),
@@ -92,7 +93,7 @@ pub fn serve_connections<J: Naming + Send + Sync, R: Threads + Wait + Files + Ne
             Ok(receive(rt, alloc, house, reception, endpoint, waiting, back, &waker))
         },
     );
-    let fault = served.map_err(end_of)?;
+    let fault = served.map_err(ServerFault::of_system)?;
     Ok(Served::new(returned.into_inner(), fault))
 }
 
@@ -106,10 +107,10 @@ fn receive<'h, J: Naming + Send + Sync, R: Threads + Wait + Files + Sync + Print
     waiting: Mutex<Vec<Client<'h, J>>>,
     back: &Mutex<Returned<J>>,
     waker: &Waker,
-) -> Option<ServerEnd> {
+) -> Option<ServerFault> {
     let mut reception = reception;
     if println!(rt; "listening").is_err() {
-        reception.note(ServerEnd::Device);
+        reception.note(ServerFault::Device);
     }
     let fault = accept_all(rt, alloc, house, reception, endpoint, waiting, back, waker);
     house.stop(rt);
@@ -117,8 +118,8 @@ fn receive<'h, J: Naming + Send + Sync, R: Threads + Wait + Files + Sync + Print
 }
 
 /// Starts a thread for each of `workers` workers, as long as there is a pass for it, and gives back the passes that are
-/// left. `OutOfMemory` if there is no room for what a worker sees, or the fault of the thread that can't be started: the
-/// workers that were started go on.
+/// left. `OutOfMemory` if there is no room for what a worker sees, or the fault of the thread that can't be started:
+/// the workers that were started go on.
 fn start_workers<'s, 'r: 's, 'h: 's, J: Naming + Send + Sync, E: 's, R: Threads + Wait + Sync>(
     scope: &Scope<'s, E>,
     rt: &'r R,
@@ -150,7 +151,7 @@ fn accept_all<'h, J: Naming + Send + Sync, R: Threads + Wait + Files + Sync>(
     waiting: Mutex<Vec<Client<'h, J>>>,
     back: &Mutex<Returned<J>>,
     waker: &Waker,
-) -> Option<ServerEnd> {
+) -> Option<ServerFault> {
     let desk = &waiting;
     let fault = thread::scope(thread::scope_env(), rt, move |scope| {
         let mut reception = reception;
@@ -166,7 +167,7 @@ fn accept_all<'h, J: Naming + Send + Sync, R: Threads + Wait + Files + Sync>(
                 }
                 let session = move || serve_waiting(rt, alloc, desk, &connection, back, waker);
                 if scope.spawn(session).is_err() {
-                    reception.lose_last(ServerEnd::Device);
+                    reception.lose_last(ServerFault::Device);
                 }
             }
             if reception.is_over() {
@@ -195,12 +196,12 @@ fn let_wait<'h, J: Naming, R: Wait>(
     desk: &Mutex<Vec<Client<'h, J>>>,
     back: &Mutex<Returned<J>>,
     client: Client<'h, J>,
-) -> Result<(), ServerEnd> {
+) -> Result<(), ServerFault> {
     match put(rt, desk, client) {
         None => Ok(()),
         Some(refused) => {
             back.lock(rt).keep_fresh(refused.into_seats());
-            Err(ServerEnd::Memory)
+            Err(ServerFault::Memory)
         }
     }
 }
@@ -241,16 +242,4 @@ fn serve_waiting<J: Naming, R: Wait>(
     connection.end();
     // If the waker fails, the next tick shows that the session has ended.
     let _ = waker.wake();
-}
-
-/// What a fault of the system is for the server.
-fn end_of(fault: io::Error) -> ServerEnd
-    ensures memory { error_kind fault ≡ ErrorKind.OutOfMemory → result ≡ Memory }
-    ensures device { error_kind fault ≢ ErrorKind.OutOfMemory → result ≡ Device }
-    ensures either { (result ≡ Device) ⊎ (result ≡ Memory) }
-{
-    match fault.kind() {
-        ErrorKind::OutOfMemory => ServerEnd::Memory,
-        _ => ServerEnd::Device,
-    }
 }

@@ -6,10 +6,10 @@ use Rattle.job_language.specs.declared.steps.Entry.{Entry}
 use Rattle.tenant_record.specs.Cell.{CellData}
 use Rattle.tenant_lock.specs.Awaited.{AreWaitersTold, are_open}
 use Rattle.tenant_lock.specs.Pauses.{has_to_stop}
-use Rattle.tenant_lock.specs.declared.awaited.Jobs.{Jobs}
+use Rattle.tenant_lock.specs.declared.awaited.AwaitedJobs.{AwaitedJobs}
 
 -- Those who sleep for jobs then have to.
-pub told_open : (c : CellData) (is_over is_entry : Bool) (before : Option Jobs) (told : Bool) (after : Option Jobs) → AreWaitersTold c is_over is_entry before told after →
+pub told_open : (c : CellData) (is_over is_entry : Bool) (before : Option AwaitedJobs) (told : Bool) (after : Option AwaitedJobs) → AreWaitersTold c is_over is_entry before told after →
     are_open c is_over after ≡ true
 told_open c is_over is_entry before true after are = rw (are.all refl) refl
 told_open c is_over is_entry before false after are = rw (are.kept refl) (are.sleep refl)

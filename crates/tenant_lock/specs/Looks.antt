@@ -9,7 +9,7 @@ use Rattle.tenant_model.specs.Walks.{height}
 use Rattle.tenant_record.specs.Cell.{CellData, state_of}
 use Rattle.tenant_record.specs.PassData.{PassData}
 use Rattle.tenant_record.specs.Places.{is_one_out}
-use Rattle.tenant_lock.specs.declared.held.Turned.{Turned}
+use Rattle.tenant_lock.specs.declared.held.MovedAndSeen.{MovedAndSeen}
 use Rattle.tenant_lock.specs.declared.looks.TheConstants.{MOST_COMPARED}
 
 -- Is no pass of the cell out but that one?
@@ -40,9 +40,9 @@ IsLook c None view rows = (view ≡ Bare) × (rows ≡ None)
 IsLook c (Some p) view rows = IsShown c p view × (rows ≡ Some (height (state_of c).rows p.slot))
 
 -- What is seen of the slot of a move's pass after it, and how many rows are on it, are those of the cell.
-abbrev pub IsLookAfter : Turned → View → CellData → Type 0
+abbrev pub IsLookAfter : MovedAndSeen → View → CellData → Type 0
 IsLookAfter t view c = IsLook c t.advanced.pass view t.height
 
 -- How many rows are on the slot of a move's pass after it is that of the cell.
-abbrev pub IsCountAfter : Turned → CellData → Type 0
+abbrev pub IsCountAfter : MovedAndSeen → CellData → Type 0
 IsCountAfter t c = t.height ≡ rows_on c t.advanced.pass

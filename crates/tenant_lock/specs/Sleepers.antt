@@ -8,8 +8,8 @@ use Rattle.tenant_record.specs.Cell.{CellData, has_slot_of, state_of}
 use Rattle.tenant_record.specs.PassData.{PassData}
 use Rattle.tenant_lock.specs.Awaited.{added, jobs_of}
 use Rattle.tenant_lock.specs.Pauses.{has_to_stop}
-use Rattle.tenant_lock.specs.declared.awaited.Jobs.{Jobs}
-use Rattle.tenant_lock.specs.declared.waits.Slots.{Slots}
+use Rattle.tenant_lock.specs.declared.awaited.AwaitedJobs.{AwaitedJobs}
+use Rattle.tenant_lock.specs.declared.waits.SlotSet.{SlotSet}
 
 -- The number of the cell's life, the tenant's cell, whether those who wait for it were told to stop, and at which slots and for which jobs somebody may sleep who was not told to look again.
 pub record HeldData : Type 0 where
@@ -17,7 +17,7 @@ pub record HeldData : Type 0 where
   pub cell : CellData
   pub is_stopped : Bool
   pub noted : List Bool
-  pub awaited : Option Jobs
+  pub awaited : Option AwaitedJobs
 
 -- Has everybody who waits to stop?
 abbrev pub must_stop : HeldData → Bool
@@ -37,7 +37,7 @@ pub record MayLeave (h : HeldData) (p : PassData) : Type 0 where
   pub empty : must_stop h ≡ false → height (state_of h.cell).rows p.slot ≡ 0
 
 -- of each slot whether it is one of these
-abbrev pub marks : Option Slots → List Bool
+abbrev pub marks : Option SlotSet → List Bool
 marks None = replicate MAX_SLOTS false
 marks (Some slots) = slots.is_in
 
@@ -61,5 +61,5 @@ pub record AreTold (c : CellData) (is_over : Bool) (noted named left : List Bool
   pub sleep : (slot : ℕ) → is_in left slot ≡ true → IsIdle c is_over slot
 
 -- the same of slots that may be none
-abbrev pub AreNamed : CellData → (is_over : Bool) → (noted named left : Option Slots) → Type 0
+abbrev pub AreNamed : CellData → (is_over : Bool) → (noted named left : Option SlotSet) → Type 0
 AreNamed c is_over noted named left = AreTold c is_over (marks noted) (marks named) (marks left)

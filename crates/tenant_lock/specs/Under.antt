@@ -24,7 +24,7 @@ use Rattle.tenant_record.specs.declared.slots.Arrived.{Arrived}
 use Rattle.tenant_book.specs.Fronts.{Finds, Follows, FrontData}
 use Rattle.tenant_lock.specs.declared.counts.Counts.{Counts}
 use Rattle.tenant_lock.specs.declared.counts.Tally.{Tally}
-use Rattle.tenant_lock.specs.declared.held.Turned.{Turned}
+use Rattle.tenant_lock.specs.declared.held.MovedAndSeen.{MovedAndSeen}
 use Rattle.tenant_lock.specs.Looks.{IsCountAfter, IsLookAfter}
 
 -- An ask of a seat of the tenant of that number is one of that tenant's cell. The cell of another tenant is not asked.
@@ -90,11 +90,11 @@ abbrev pub IsHigh : PassData → ℕ → CellData → Type 0
 IsHigh p rows c = rows ≡ height (state_of c).rows p.slot
 
 -- The slot of a pass was moved, and looked at: what is seen, and how many rows are on it, are those after the move.
-abbrev pub AndLooked : Turned → View → (CellData → CellData → Type 0) → CellData → CellData → Type 0
+abbrev pub AndLooked : MovedAndSeen → View → (CellData → CellData → Type 0) → CellData → CellData → Type 0
 AndLooked t view moved c d = moved c d × IsLookAfter t view d
 
 -- The slot of a pass was moved, and the rows on it counted after that.
-abbrev pub AndCounted : Turned → (CellData → CellData → Type 0) → CellData → CellData → Type 0
+abbrev pub AndCounted : MovedAndSeen → (CellData → CellData → Type 0) → CellData → CellData → Type 0
 AndCounted t moved c d = moved c d × IsCountAfter t d
 
 -- The entries from that number on, that many at most, were added to a vector.

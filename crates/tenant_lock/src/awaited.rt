@@ -18,19 +18,19 @@ const NOTED: usize = 64;
 
 /// The jobs for whose outcomes somebody may sleep who was not told to look again.
 #[derive(Clone, Copy, Debug, PartialEq, Eq)]
-pub(crate) struct Jobs {
+pub(crate) struct AwaitedJobs {
     /// The job that each seat waits for, by the seat's number.
     noted: [Option<u64>; NOTED],
     /// Whether a seat that has no place may wait.
     others: bool,
 }
 
-impl Jobs {
+impl AwaitedJobs {
     /// No job.
-    fn none() -> Jobs
+    fn none() -> AwaitedJobs
         ensures { result ≡ no_jobs }
     {
-        Jobs {
+        AwaitedJobs {
             noted: [None; NOTED],
             others: false,
         }
@@ -58,13 +58,13 @@ impl Jobs {
 }
 
 /// Notes that a seat is about to sleep for a job.
-pub(crate) fn note(awaited: &mut Option<Jobs>, seat: usize, job: u64)
+pub(crate) fn note(awaited: &mut Option<AwaitedJobs>, seat: usize, job: u64)
     ensures { awaited.new ≡ Some (added (jobs_of awaited.old) seat job) }
 {
     match awaited {
         Some(jobs) => jobs.add(seat, job),
         None => {
-            let mut jobs = Jobs::none();
+            let mut jobs = AwaitedJobs::none();
             jobs.add(seat, job);
             *awaited = Some(jobs);
         }
@@ -74,7 +74,7 @@ pub(crate) fn note(awaited: &mut Option<Jobs>, seat: usize, job: u64)
 /// Says whether those who sleep for jobs may go on after a call that made an entry, or none. If so, all are to be
 /// woken, and are forgotten here: who has to sleep again is noted again.
 pub(crate) fn tell_waiters(
-    awaited: &mut Option<Jobs>,
+    awaited: &mut Option<AwaitedJobs>,
     cell: &TenantCell,
     is_over: bool,
     is_entry: bool,

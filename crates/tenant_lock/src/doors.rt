@@ -16,7 +16,7 @@ mod reading;
 mod waiting;
 
 use crate::held::Held;
-use crate::news::{Done, News};
+use crate::news::{Done, ToWake};
 use job_language::{Entry, MAX_SLOTS, Reply, Request, TenantConfig};
 use market_config::Call;
 use std::alloc::{AllocError, Global};
@@ -169,8 +169,8 @@ impl<J: Naming> TenantDoor<J> {
         self.tell(done)
     }
 
-    /// Takes the lock. What lies under it is known by its type alone, so whether it is this tenant's cell in this life is
-    /// looked at each time. It always is: a lock with another one under it would never be taken.
+    /// Takes the lock. What lies under it is known by its type alone, so whether it is this tenant's cell in this life
+    /// is looked at each time. It always is: a lock with another one under it would never be taken.
     fn lock<R: Wait>(&self, rt: &R) -> MutexGuard<'_, Held<J>>
         ensures own { (mutex_guard_value result).cell.tenant ≡ self.now.tenant }
         ensures life { (mutex_guard_value result).life ≡ self.now.life }
@@ -201,7 +201,7 @@ impl<J: Naming> TenantDoor<J> {
         ensures { result ≡ done.answer }
     {
         let Done { answer, news } = done;
-        let News { at_slots, for_jobs } = news;
+        let ToWake { at_slots, for_jobs } = news;
         at_slots.wake(&self.at_slots);
         for_jobs.wake(&self.outcomes);
         answer

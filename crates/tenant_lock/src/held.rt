@@ -19,9 +19,9 @@ mod moving;
 mod reading;
 mod waiting;
 
-use crate::awaited::Jobs;
+use crate::awaited::AwaitedJobs;
 use crate::news::Done;
-use crate::waits::Waiting;
+use crate::waits::Sleepers;
 use job_language::{Answer, Came, Error, Reply, Request};
 use market_config::Call;
 use std::marker::Model;
@@ -39,8 +39,8 @@ pub(crate) struct Held<J: Naming> {
     /// The moments of the cell's life, of which the cell is the last.
     whole: Whole<J>,
     is_stopped: bool,
-    waiting: Waiting,
-    awaited: Option<Jobs>,
+    waiting: Sleepers,
+    awaited: Option<AwaitedJobs>,
 }
 
 impl<J: Naming> Model for Held<J> {
@@ -55,15 +55,15 @@ impl<J: Naming> Model for Held<J> {
 }
 
 /// What a move of a slot came to.
-pub struct Turned {
+pub struct MovedAndSeen {
     pub advanced: Advanced,
     /// How many rows are on the slot after it, unless its pass went home.
     pub height: Option<usize>,
 }
 
 impl<J: Naming> Held<J> {
-    /// A tenant for which nobody waits, and of which no slot has rows but those that are out. Its life has no moment yet,
-    /// and the cell is its first.
+    /// A tenant for which nobody waits, and of which no slot has rows but those that are out. Its life has no moment
+    /// yet, and the cell is its first.
     pub(crate) fn new<R: Wait>(rt: &R, cell: TenantCell, whole: Whole<J>) -> Held<J>
         requires attended { IsAttended cell }
         requires config { cell.config ≡ whole.config }
@@ -80,7 +80,7 @@ impl<J: Naming> Held<J> {
             cell,
             whole,
             is_stopped: false,
-            waiting: Waiting::new(),
+            waiting: Sleepers::new(),
             awaited: None,
         }
     }

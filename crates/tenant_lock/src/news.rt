@@ -1,4 +1,4 @@
-// Who may go on after a call.
+// Whom a call wakes.
 ghost use Rattle.std.specs.Prelude.{◌≡◌, replicate, false};
 ghost use Rattle.job_language.specs.declared.tenants.TheConstants.{MAX_SLOTS};
 ghost use Rattle.tenant_lock.specs.Awaited.{AreWaitersTold};
@@ -6,21 +6,21 @@ ghost use Rattle.tenant_lock.specs.Pauses.{has_to_stop};
 ghost use Rattle.tenant_lock.specs.Sleepers.{AreNamed, marks};
 ghost use Rattle.tenant_record.specs.Cell.{IsRight};
 
-use crate::awaited::{Jobs, tell_waiters};
-use crate::waits::{Slots, Waiting};
+use crate::awaited::{AwaitedJobs, tell_waiters};
+use crate::waits::{Sleepers, SlotSet};
 use job_language::MAX_SLOTS;
 use std::sync::Condvar;
 use tenant_record::TenantCell;
 
-/// Who may go on after a call. Neither part can be dropped: each ends where those are woken whom it names.
-pub(crate) struct News {
+/// Whom a call wakes. Neither part can be dropped: each ends where those are woken whom it names.
+pub(crate) struct ToWake {
     pub(crate) at_slots: AtSlots,
     pub(crate) for_jobs: ForJobs,
 }
 
 /// Those who sleep at these slots, if there are any.
 pub(crate) struct AtSlots {
-    slots: Option<Slots>,
+    slots: Option<SlotSet>,
 }
 
 /// Whether those go on who wait for jobs.
@@ -53,22 +53,22 @@ impl ForJobs {
     }
 }
 
-/// What a call did, and who may go on after it.
+/// What a call did, and whom it wakes.
 pub(crate) struct Done<T> {
     pub(crate) answer: T,
-    pub(crate) news: News,
+    pub(crate) news: ToWake,
 }
 
 impl<T> Done<T> {
-    /// A call that made an entry, or none, with those who may go on after it. Who is named at a slot, or waits for a job
-    /// then, is forgotten: it looks again, and is noted again if it has to sleep.
+    /// A call that made an entry, or none, with the sleepers to wake. They are no longer noted: each looks again, and is
+    /// noted again if it has to sleep.
     pub(crate) fn made(
         answer: T,
         has_entered: bool,
         cell: &TenantCell,
         is_stopped: bool,
-        waiting: &mut Waiting,
-        awaited: &mut Option<Jobs>,
+        waiting: &mut Sleepers,
+        awaited: &mut Option<AwaitedJobs>,
     ) -> Done<T>
         ensures answer { result.answer ≡ answer }
         ensures right { IsRight cell.now }
@@ -85,7 +85,7 @@ impl<T> Done<T> {
         let are_told = tell_waiters(awaited, cell, is_over, has_entered);
         Done {
             answer,
-            news: News {
+            news: ToWake {
                 at_slots: AtSlots { slots },
                 for_jobs: ForJobs { are_told },
             },
@@ -100,7 +100,7 @@ impl<T> Done<T> {
     {
         Done {
             answer,
-            news: News {
+            news: ToWake {
                 at_slots: AtSlots { slots: None },
                 for_jobs: ForJobs { are_told: false },
             },

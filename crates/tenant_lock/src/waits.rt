@@ -6,25 +6,25 @@ ghost use Rattle.tenant_lock.specs.Sleepers.{AreNamed, AreTold, CanMove, IsIdle,
 use job_language::MAX_SLOTS;
 use tenant_record::TenantCell;
 
-/// Slots of a tenant.
+/// A set of a tenant's slots.
 #[derive(Clone, Copy, Debug, PartialEq, Eq)]
-pub(crate) struct Slots {
-    /// Of each slot whether it is one of them.
+pub(crate) struct SlotSet {
+    /// Whether each slot is in the set.
     is_in: [bool; MAX_SLOTS as usize],
 }
 
-impl Slots {
+impl SlotSet {
     /// No slot.
-    fn none() -> Slots
+    fn none() -> SlotSet
         ensures { result.is_in ≡ replicate MAX_SLOTS false }
     {
-        Slots {
+        SlotSet {
             is_in: [false; MAX_SLOTS as usize],
         }
     }
 
     /// The slots, if there are any.
-    fn if_any(self) -> Option<Slots>
+    fn if_any(self) -> Option<SlotSet>
         ensures { marks result ≡ self.is_in }
     {
         if self.is_empty() { None } else { Some(self) }
@@ -73,32 +73,32 @@ impl Slots {
 
 /// The waits at a tenant's slots.
 #[derive(Clone, Copy, Debug, PartialEq, Eq)]
-pub struct Waits {
-    /// How many slots there are at which somebody may sleep. Who left off waiting for another reason than that the
-    /// slot can move is counted until it can.
+pub struct WaitCounts {
+    /// How many slots there are at which somebody may sleep. A thread that stopped waiting early still counts until
+    /// the slot can move.
     pub asleep: usize,
-    /// How often somebody was woken who slept at a slot.
+    /// How often a thread was woken that slept at a slot.
     pub wakes: u64,
-    /// How often such a one then found that the slot was idle, and slept again.
+    /// How often the slot was still idle then, and the thread slept again.
     pub idle_wakes: u64,
 }
 
 /// Who waits at the slots of a tenant.
 #[derive(Drop)]
-pub(crate) struct Waiting {
+pub(crate) struct Sleepers {
     /// The slots at which somebody may sleep who was not told to look again, if there are any: who makes an entry then
     /// sees at once that nobody sleeps.
-    noted: Option<Slots>,
+    noted: Option<SlotSet>,
     wakes: u64,
     idle_wakes: u64,
 }
 
-impl Waiting {
+impl Sleepers {
     /// Nobody waits.
-    pub(crate) fn new() -> Waiting
+    pub(crate) fn new() -> Sleepers
         ensures { marks result.noted ≡ replicate MAX_SLOTS false }
     {
-        Waiting {
+        Sleepers {
             noted: None,
             wakes: 0,
             idle_wakes: 0,
@@ -112,7 +112,7 @@ impl Waiting {
     {
         let mut noted = match self.noted {
             Some(noted) => noted,
-            None => Slots::none(),
+            None => SlotSet::none(),
         };
         noted.add(slot);
         self.noted = Some(noted);
@@ -120,7 +120,7 @@ impl Waiting {
 
     /// Forgets the slots at which nobody has to sleep any more, and names them, so that who sleeps there is woken: all
     /// if everybody has to stop, else those that can move.
-    pub(crate) fn tell(&mut self, cell: &TenantCell, is_over: bool) -> Option<Slots>
+    pub(crate) fn tell(&mut self, cell: &TenantCell, is_over: bool) -> Option<SlotSet>
         ensures { AreNamed cell.now is_over self.old.noted result self.new.noted }
     {
         let Some(noted) = self.noted else {
@@ -148,10 +148,10 @@ impl Waiting {
     }
 
     /// How many sleep, and how often they were woken.
-    pub(crate) fn waits(&self) -> Waits
+    pub(crate) fn waits(&self) -> WaitCounts
         ensures { result.asleep ≡ count_by (λ b. b) (marks self.now.noted) }
     {
-        Waits {
+        WaitCounts {
             asleep: self.noted.map_or(0, |noted| noted.len()),
             wakes: self.wakes,
             idle_wakes: self.idle_wakes,
@@ -160,10 +160,10 @@ impl Waiting {
 }
 
 /// Takes out the slots at which there is something to do, and gives them.
-fn take_movers(noted: &mut Slots, cell: &TenantCell, is_over: bool) -> Slots
+fn take_movers(noted: &mut SlotSet, cell: &TenantCell, is_over: bool) -> SlotSet
     ensures { AreTold cell.now is_over noted.old.is_in result.is_in noted.new.is_in }
 {
-    let mut named = Slots::none();
+    let mut named = SlotSet::none();
     for slot in 0..MAX_SLOTS {
         if noted.has(slot) && can_move(cell, is_over, slot) {
             noted.remove(slot);

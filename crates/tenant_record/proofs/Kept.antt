@@ -59,29 +59,29 @@ apart_moved slot o m differs = grind (arith, nat_tests)
 apart_came : (slot o : ℕ) (m : Came) → o ≢ slot → touches o (record { step = steps.Arrive slot; answer = answer.Came m }) ≡ false
 apart_came slot o m differs = grind (arith, nat_tests)
 
-module _ (c : Tenant) (h : List Entry) (stills : List (Option ℕ)) (slot : ℕ) (are : AreStill c h stills) (long : slot < length stills) where
+module _ (c : Tenant) (h : List Entry) (idle_since : List (Option ℕ)) (slot : ℕ) (are : AreStill c h idle_since) (long : slot < length idle_since) where
   abbrev Stills : Moved → Type 0
-  Stills m = AreStill c (h ++ entries_of (steps.Advance slot) (answer.Moved m)) (slice_set stills slot (still_after (slice_index_or stills slot None) m (length h)))
+  Stills m = AreStill c (h ++ entries_of (steps.Advance slot) (answer.Moved m)) (slice_set idle_since slot (still_after (slice_index_or idle_since slot None) m (length h)))
 
-  moved_more : (m : Moved) → AreStill c (h ++ (record { step = steps.Advance slot; answer = answer.Moved m }) ∷ []) (slice_set stills slot None)
+  moved_more : (m : Moved) → AreStill c (h ++ (record { step = steps.Advance slot; answer = answer.Moved m }) ∷ []) (slice_set idle_since slot None)
   moved_more m = let e : Entry = record { step = steps.Advance slot; answer = answer.Moved m } in
-      stills_more c h e stills (slice_set stills slot None) are (forgotten stills slot e long (λ o differs. apart_moved slot o m differs))
+      stills_more c h e idle_since (slice_set idle_since slot None) are (forgotten idle_since slot e long (λ o differs. apart_moved slot o m differs))
 
-  unmoved : AreStill c (h ++ []) (slice_set stills slot (slice_index_or stills slot None))
-  unmoved = rw (append-nil h, set-get_or stills slot None) are
+  unmoved : AreStill c (h ++ []) (slice_set idle_since slot (slice_index_or idle_since slot None))
+  unmoved = rw (append-nil h, set-get_or idle_since slot None) are
 
   moved_stills : (m : Moved) → (m ≡ moved.Idle → (advance (state_after c h) slot).0 ≡ moved.Idle) → Stills m
   moved_stills moved.Ran idle = moved_more moved.Ran
   moved_stills (moved.Nested n) idle = moved_more (moved.Nested n)
   moved_stills moved.Freed idle = moved_more moved.Freed
-  moved_stills moved.Idle idle = rw (append-nil h) (stills_now c h stills slot are long (idle refl))
+  moved_stills moved.Idle idle = rw (append-nil h) (stills_now c h idle_since slot are long (idle refl))
   moved_stills moved.Left idle = unmoved
   moved_stills moved.Stale idle = unmoved
   moved_stills moved.Full idle = unmoved
 
-  arrived_stills : (m : Came) → AreStill c (h ++ entries_of (steps.Arrive slot) (answer.Came m)) (touched (entered slot (is_entry (answer.Came m))) stills)
+  arrived_stills : (m : Came) → AreStill c (h ++ entries_of (steps.Arrive slot) (answer.Came m)) (touched (entered slot (is_entry (answer.Came m))) idle_since)
   arrived_stills (came.At n) = let e : Entry = record { step = steps.Arrive slot; answer = answer.Came (came.At n) } in
-      stills_more c h e stills (slice_set stills slot None) are (forgotten stills slot e long (λ o differs. apart_came slot o (came.At n) differs))
+      stills_more c h e idle_since (slice_set idle_since slot None) are (forgotten idle_since slot e long (λ o differs. apart_came slot o (came.At n) differs))
   arrived_stills came.Nothing = rw (append-nil h) are
   arrived_stills came.Full = rw (append-nil h) are
 
@@ -112,21 +112,21 @@ placed_enters (reply.Released n) slot is = refl
 placed_enters (reply.Refused error) slot is = absurd (grind (arith, is))
 placed_enters reply.Pending slot is = absurd (grind (arith, is))
 
-module _ (c : Tenant) (h : List Entry) (stills : List (Option ℕ)) (r : Request) (y : Reply) (are : AreStill c h stills) where
+module _ (c : Tenant) (h : List Entry) (idle_since : List (Option ℕ)) (r : Request) (y : Reply) (are : AreStill c h idle_since) where
   abbrev TheEntry : Entry
   TheEntry = record { step = steps.Ask r; answer = answer.Replied y }
 
   unplaced : placed_on y ≡ None → (o : ℕ) → touches o TheEntry ≡ false
   unplaced none o = places_by y o ∙ ap (λ k. option_map_or (λ s. s == o) k false) none
 
-  asked_stills : (k : Option ℕ) (b : Bool) → placed_on y ≡ k → is_recorded_reply y ≡ b → ((slot : ℕ) → placed_on y ≡ Some slot → slot < length stills) →
-      AreStill c (h ++ entries_of (steps.Ask r) (answer.Replied y)) (touched (placed_on y) stills)
-  asked_stills None true none enters low = rw (entry_recorded (steps.Ask r) (answer.Replied y) enters, none) (stills_more c h TheEntry stills stills are (λ o. inr (unplaced none o, refl)))
+  asked_stills : (k : Option ℕ) (b : Bool) → placed_on y ≡ k → is_recorded_reply y ≡ b → ((slot : ℕ) → placed_on y ≡ Some slot → slot < length idle_since) →
+      AreStill c (h ++ entries_of (steps.Ask r) (answer.Replied y)) (touched (placed_on y) idle_since)
+  asked_stills None true none enters low = rw (entry_recorded (steps.Ask r) (answer.Replied y) enters, none) (stills_more c h TheEntry idle_since idle_since are (λ o. inr (unplaced none o, refl)))
   asked_stills None false none quiet low = rw (none_recorded (steps.Ask r) (answer.Replied y) quiet, none, append-nil h) are
   asked_stills (Some slot) true some enters low =
       rw (entry_recorded (steps.Ask r) (answer.Replied y) enters, some)
-      (stills_more c h TheEntry stills (slice_set stills slot None) are
-      (forgotten stills slot TheEntry (low slot some) (λ o differs. places_by y o ∙ (ap (λ k. option_map_or (λ s. s == o) k false) some ∙ grind (arith, nat_tests)))))
+      (stills_more c h TheEntry idle_since (slice_set idle_since slot None) are
+      (forgotten idle_since slot TheEntry (low slot some) (λ o differs. places_by y o ∙ (ap (λ k. option_map_or (λ s. s == o) k false) some ∙ grind (arith, nat_tests)))))
   asked_stills (Some slot) false some quiet low = absurd (let enters = placed_enters y slot some in grind (arith, enters, quiet))
 
 -- Passes that come home, go out or stay.
@@ -187,7 +187,7 @@ same_slot slot o same = ap (λ k. unwrap_or k slot) same
 -- an advance, or a commit
 pub moved_right : (c d : CellData) (p : PassData) (m : Moved) (due : Option ℕ) (q : Option PassData) → IsValidTenant c.config → IsRight c → IsMoved c p m due q d → IsHistory d.config d.history →
     Takes (state_of c) (steps.Advance p.slot) (answer.Moved m) (state_of d)
-    → p.tenant ≡ c.tenant → p.slot < c.config.slots → p.slot < length c.stills → (m ≡ moved.Idle → (advance (state_of c) p.slot).0 ≡ moved.Idle) → IsRight d
+    → p.tenant ≡ c.tenant → p.slot < c.config.slots → p.slot < length c.idle_since → (m ≡ moved.Idle → (advance (state_of c) p.slot).0 ≡ moved.Idle) → IsRight d
 moved_right c d p m due q valid r is history takes tenant low long idle =
     let n = length c.history in
     let back = advanced p m n in
@@ -196,7 +196,7 @@ moved_right c d p m due q valid r is history takes tenant low long idle =
     record {
       history = history;
       askers = rw (is.askers, is.history) (r.askers ∙ sym (asks_same c.history (steps.Advance p.slot) (answer.Moved m) refl));
-      stills = rw (is.config, is.history, is.stills) (moved_stills c.config c.history c.stills p.slot r.stills long m idle);
+      idle_since = rw (is.config, is.history, is.idle_since) (moved_stills c.config c.history c.idle_since p.slot r.idle_since long m idle);
       home =
           let kept : AreHome c.config (state_of d) left = home_kept c.config c.history (steps.Advance p.slot) (answer.Moved m) (state_of d) c.home left valid r.history r.home takes
           (λ o apart in_before. woken_in (returned c.home back m) due o (returned_in c.home back m o in_before))
@@ -209,13 +209,13 @@ moved_right c d p m due q valid r is history takes tenant low long idle =
 
 -- an arrival
 pub arrived_right : (c d : CellData) (slot : ℕ) (m : Came) (due : Option ℕ) (q : Option PassData) → IsValidTenant c.config → IsRight c → IsArrived c slot m due q d → IsHistory d.config d.history →
-    Takes (state_of c) (steps.Arrive slot) (answer.Came m) (state_of d) → slot < length c.stills → IsRight d
+    Takes (state_of c) (steps.Arrive slot) (answer.Came m) (state_of d) → slot < length c.idle_since → IsRight d
 arrived_right c d slot m due q valid r is history takes long =
     let left = woken due (home_arrived c.home slot m) in
     record {
       history = history;
       askers = rw (is.askers, is.history) (r.askers ∙ sym (asks_same c.history (steps.Arrive slot) (answer.Came m) refl));
-      stills = rw (is.config, is.history, is.stills) (arrived_stills c.config c.history c.stills slot r.stills long m);
+      idle_since = rw (is.config, is.history, is.idle_since) (arrived_stills c.config c.history c.idle_since slot r.idle_since long m);
       home =
           let kept : AreHome c.config (state_of d) left = home_kept c.config c.history (steps.Arrive slot) (answer.Came m) (state_of d) c.home left valid r.history r.home takes
           (λ o apart in_before. woken_in (home_arrived c.home slot m) due o (arrived_in c.home slot m o apart in_before))
@@ -231,13 +231,13 @@ arrived_right c d slot m due q valid r is history takes long =
 
 -- an ask
 pub asked_right : (c d : CellData) (s t : SeatData) (a : Request) (y : Reply) (due : Option ℕ) (q : Option PassData) → IsValidTenant c.config → IsRight c → IsAsked c s a y due q d t →
-    IsHistory d.config d.history → Takes (state_of c) (steps.Ask a) (answer.Replied y) (state_of d) → ((slot : ℕ) → placed_on y ≡ Some slot → slot < length c.stills) → IsRight d
+    IsHistory d.config d.history → Takes (state_of c) (steps.Ask a) (answer.Replied y) (state_of d) → ((slot : ℕ) → placed_on y ≡ Some slot → slot < length c.idle_since) → IsRight d
 asked_right c d s t a y due q valid r is history takes long =
     let left = woken due (taken (placed_on y) c.home) in
     record {
       history = history;
       askers = rw (is.askers, is.history) (asks_asked c.history c.askers s.number a y r.askers);
-      stills = rw (is.config, is.history, is.stills) (asked_stills c.config c.history c.stills a y r.stills (placed_on y) (is_recorded_reply y) refl refl long);
+      idle_since = rw (is.config, is.history, is.idle_since) (asked_stills c.config c.history c.idle_since a y r.idle_since (placed_on y) (is_recorded_reply y) refl refl long);
       home =
           let kept : AreHome c.config (state_of d) left = home_kept c.config c.history (steps.Ask a) (answer.Replied y) (state_of d) c.home left valid r.history r.home takes
           (λ o apart in_before. woken_in (taken (placed_on y) c.home) due o (taken_in c.home (placed_on y) o (λ same. apart (placed_enters y o same) same) in_before))
@@ -262,7 +262,7 @@ nobody_came c slot out = record {
   tenant = refl;
   config = refl;
   askers = refl;
-  stills = refl;
+  idle_since = refl;
   pass = refl;
   due = refl;
   home = out_same c.home slot (place c.home slot) refl out;
@@ -287,7 +287,7 @@ pub first_right : (tenant : ℕ) (c : Tenant) → IsValidTenant c → IsRight (f
 first_right tenant c valid = record {
   history = first_is c;
   askers = refl;
-  stills = λ o within. rw (get_or-replicate {A = Option ℕ} 16 o None None within) tt;
+  idle_since = λ o within. rw (get_or-replicate {A = Option ℕ} 16 o None None within) tt;
   home = λ o low empty. let reserved = valid.reserved in ap is_in (first_at tenant c.steps c.slots o (omega (arith, low, reserved)));
   places = first_placed tenant c.steps c.slots;
   slots = length-map-range_with_len (λ s. Home (first_pass tenant c.steps s)) 0 c.slots;

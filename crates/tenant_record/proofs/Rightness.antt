@@ -141,27 +141,27 @@ still_now : (c : Tenant) (h : List Entry) (slot : ℕ) → (advance (state_after
 still_now c h slot idle = record { within = omega arith; untouched = none_left (λ (x : Entry). touches slot x ≡ false) h; idle = rw take-length idle }
 
 -- one entry more: each slot is untouched by it, or not known to be idle
-pub stills_more : (c : Tenant) (h : List Entry) (e : Entry) (stills left : List (Option ℕ)) → AreStill c h stills →
-    ((o : ℕ) → (slice_index_or left o None ≡ None) ⊎ ((touches o e ≡ false) × (slice_index_or left o None ≡ slice_index_or stills o None))) → AreStill c (h ++ e ∷ []) left
-stills_more c h e stills left are each o within = elim (each o) [
+pub stills_more : (c : Tenant) (h : List Entry) (e : Entry) (idle_since left : List (Option ℕ)) → AreStill c h idle_since →
+    ((o : ℕ) → (slice_index_or left o None ≡ None) ⊎ ((touches o e ≡ false) × (slice_index_or left o None ≡ slice_index_or idle_since o None))) → AreStill c (h ++ e ∷ []) left
+stills_more c h e idle_since left are each o within = elim (each o) [
   | inl unknown ↦ rw unknown tt
-  | inr apart ↦ rw apart.1 (still_more c h e o (slice_index_or stills o None) (are o within) apart.0)
+  | inr apart ↦ rw apart.1 (still_more c h e o (slice_index_or idle_since o None) (are o within) apart.0)
 ]
 
 -- a slot is idle now
-pub stills_now : (c : Tenant) (h : List Entry) (stills : List (Option ℕ)) (slot : ℕ) → AreStill c h stills → slot < length stills → (advance (state_after c h) slot).0 ≡ moved.Idle →
-    AreStill c h (slice_set stills slot (Some (length h)))
-stills_now c h stills slot are long idle o within = elim (cases_eq o slot) [
-  | inl same ↦ rw (same, get_or-set_same stills slot (Some (length h)) None long) (still_now c h slot idle)
-  | inr differs ↦ rw (get_or-set_other stills slot o (Some (length h)) None differs) (are o within)
+pub stills_now : (c : Tenant) (h : List Entry) (idle_since : List (Option ℕ)) (slot : ℕ) → AreStill c h idle_since → slot < length idle_since → (advance (state_after c h) slot).0 ≡ moved.Idle →
+    AreStill c h (slice_set idle_since slot (Some (length h)))
+stills_now c h idle_since slot are long idle o within = elim (cases_eq o slot) [
+  | inl same ↦ rw (same, get_or-set_same idle_since slot (Some (length h)) None long) (still_now c h slot idle)
+  | inr differs ↦ rw (get_or-set_other idle_since slot o (Some (length h)) None differs) (are o within)
 ]
 
 -- The slot that an entry touches is not known to be idle.
-pub forgotten : (stills : List (Option ℕ)) (slot : ℕ) (e : Entry) → slot < length stills → ((o : ℕ) → o ≢ slot → touches o e ≡ false) → (o : ℕ) →
-    (slice_index_or (slice_set stills slot None) o None ≡ None) ⊎ ((touches o e ≡ false) × (slice_index_or (slice_set stills slot None) o None ≡ slice_index_or stills o None))
-forgotten stills slot e long apart o = elim (cases_eq o slot) [
-  | inl same ↦ inl (rw same (get_or-set_same stills slot None None long))
-  | inr differs ↦ inr (apart o differs, get_or-set_other stills slot o None None differs)
+pub forgotten : (idle_since : List (Option ℕ)) (slot : ℕ) (e : Entry) → slot < length idle_since → ((o : ℕ) → o ≢ slot → touches o e ≡ false) → (o : ℕ) →
+    (slice_index_or (slice_set idle_since slot None) o None ≡ None) ⊎ ((touches o e ≡ false) × (slice_index_or (slice_set idle_since slot None) o None ≡ slice_index_or idle_since o None))
+forgotten idle_since slot e long apart o = elim (cases_eq o slot) [
+  | inl same ↦ inl (rw same (get_or-set_same idle_since slot None None long))
+  | inr differs ↦ inr (apart o differs, get_or-set_other idle_since slot o None None differs)
 ]
 
 -- Counts.

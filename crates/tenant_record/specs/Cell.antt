@@ -38,7 +38,7 @@ pub record CellData : Type 0 where
   pub history : List Entry
   pub askers : List ℕ
   pub home : List Place
-  pub stills : List (Option ℕ)
+  pub idle_since : List (Option ℕ)
 
 -- Is the slot of the pass one of the cell's, and its pass out?
 abbrev pub has_slot_of : CellData → PassData → Bool
@@ -80,7 +80,7 @@ IsStill c history slot None = Unit {0}
 IsStill c history slot (Some k) = IsStillSince c history slot k
 
 abbrev pub AreStill : Tenant → List Entry → List (Option ℕ) → Type 0
-AreStill c history stills = (slot : ℕ) → slot < MAX_SLOTS → IsStill c history slot (slice_index_or stills slot None)
+AreStill c history idle_since = (slot : ℕ) → slot < MAX_SLOTS → IsStill c history slot (slice_index_or idle_since slot None)
 
 -- The number of each slot's entries is counted.
 abbrev pub AreCounted : List Entry → List ℕ → Type 0
@@ -105,14 +105,14 @@ ArePlaced tenant home = (slot : ℕ) → IsPlaceOf tenant slot (place home slot)
 pub record IsRight (c : CellData) : Type 0 where
   pub history : IsHistory c.config c.history
   pub askers : length c.askers ≡ count_by (λ (e : Entry). is_ask e.step) c.history
-  pub stills : AreStill c.config c.history c.stills
+  pub idle_since : AreStill c.config c.history c.idle_since
   pub home : AreHome c.config (state_of c) c.home
   pub places : ArePlaced c.tenant c.home
   pub slots : length c.home ≡ c.config.slots
 
 -- a cell of a tenant that has done nothing yet
 abbrev pub first_cell : ℕ → Tenant → CellData
-first_cell tenant config = record { tenant = tenant; config = config; history = []; askers = []; home = first_places tenant config.steps config.slots; stills = replicate MAX_SLOTS None }
+first_cell tenant config = record { tenant = tenant; config = config; history = []; askers = []; home = first_places tenant config.steps config.slots; idle_since = replicate MAX_SLOTS None }
 
 -- the answer of an arrival, and the state after it: nothing happens if the pass of the slot is out
 abbrev pub arrive_by : State → ℕ → Option PassData → Came × State
@@ -145,12 +145,12 @@ counted counts slot is_entry = if is_entry then slice_set counts slot (slice_ind
 
 -- It is not known any more that the slot is idle, if one is named.
 abbrev pub touched : Option ℕ → List (Option ℕ) → List (Option ℕ)
-touched None stills = stills
-touched (Some slot) stills = slice_set stills slot None
+touched None idle_since = idle_since
+touched (Some slot) idle_since = slice_set idle_since slot None
 
 -- the same after an advance of the slot with that answer, which came at that count of entries
 abbrev pub marked : List (Option ℕ) → ℕ → Moved → (entries : ℕ) → List (Option ℕ)
-marked stills slot m entries = slice_set stills slot (still_after (slice_index_or stills slot None) m entries)
+marked idle_since slot m entries = slice_set idle_since slot (still_after (slice_index_or idle_since slot None) m entries)
 
 -- the slot, if an entry was made on it
 abbrev pub entered : ℕ → (is_entry : Bool) → Option ℕ

@@ -5,7 +5,7 @@ use Rattle.tenant_record.specs.Cell.{CellData, IsRight, AreCounted}
 use Rattle.tenant_record.specs.declared.cells.TenantCell.TheInside.{Inside}
 
 abbrev pub cell_data : Inside → CellData
-cell_data c = record { tenant = c.tenant; config = c.replay.config; history = c.replay.history; askers = c.askers.items; home = c.slots.home.items; stills = c.slots.stills }
+cell_data c = record { tenant = c.tenant; config = c.replay.config; history = c.replay.history; askers = c.askers.items; home = c.slots.home.items; idle_since = c.slots.idle_since }
 
 pub record IsCell (c : Inside) : Type 0 where
   pub right : IsRight (cell_data c)

@@ -10,7 +10,7 @@ use Rattle.tenant_record.specs.declared.closing.SlotFault.{SlotFault}
 use Rattle.tenant_record.specs.declared.closing.SlotFault.TheVariants.{PassLost, CountWrong, LogWrong}
 
 abbrev pub still_of : CellData → ℕ → Option ℕ
-still_of c slot = slice_index_or c.stills slot None
+still_of c slot = slice_index_or c.idle_since slot None
 
 -- The log of the pass is exactly the history's entries of the slot, in order, and it knows of the same idle advance as the cell.
 pub record Agrees (c : CellData) (at : ℕ) (p : PassData) : Type 0 where

@@ -30,7 +30,7 @@ pub record IsMoved (c : CellData) (p : PassData) (m : Moved) (slot : Option ℕ)
   pub tenant : d.tenant ≡ c.tenant
   pub config : d.config ≡ c.config
   pub askers : d.askers ≡ c.askers
-  pub stills : d.stills ≡ marked c.stills p.slot m (length c.history)
+  pub idle_since : d.idle_since ≡ marked c.idle_since p.slot m (length c.history)
   pub pass : q ≡ pass_back p m (length c.history)
   pub due : slot ≡ due_after (is_entry (answer.Moved m)) c.config (state_of d) (home_after c.home p m (length c.history))
   pub home : d.home ≡ woken slot (home_after c.home p m (length c.history))
@@ -45,7 +45,7 @@ pub record IsArrived (c : CellData) (at : ℕ) (came : Came) (slot : Option ℕ)
   pub tenant : d.tenant ≡ c.tenant
   pub config : d.config ≡ c.config
   pub askers : d.askers ≡ c.askers
-  pub stills : d.stills ≡ touched (entered at (is_entry (answer.Came came))) c.stills
+  pub idle_since : d.idle_since ≡ touched (entered at (is_entry (answer.Came came))) c.idle_since
   pub pass : q ≡ arrived_pass came (pass_in (place c.home at))
   pub due : slot ≡ due_after (is_entry (answer.Came came)) c.config (state_of d) (home_arrived c.home at came)
   pub home : d.home ≡ woken slot (home_arrived c.home at came)
@@ -56,7 +56,7 @@ pub record IsAsked (c : CellData) (s : SeatData) (r : Request) (reply : Reply) (
   pub tenant : d.tenant ≡ c.tenant
   pub config : d.config ≡ c.config
   pub askers : d.askers ≡ c.askers ++ askers_of s.number reply
-  pub stills : d.stills ≡ touched (placed_on reply) c.stills
+  pub idle_since : d.idle_since ≡ touched (placed_on reply) c.idle_since
   pub seat : t ≡ asked s r reply
   pub pass : q ≡ placed_pass (placed_on reply) c.home
   pub due : slot ≡ due_after (is_recorded_reply reply) c.config (state_of d) (taken (placed_on reply) c.home)

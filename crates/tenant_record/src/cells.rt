@@ -17,7 +17,7 @@ use crate::passes::Pass;
 use crate::places::{call, is_out, put, room_at};
 use crate::replay::Replay;
 use crate::seats::Seat;
-use crate::slots::{Advanced, Arrived, SlotBooks};
+use crate::slots::{Advanced, Arrived, SlotRecords};
 use job_language::{Came, Entry, Error, Reply, Request, TenantConfig};
 use job_step::Segment;
 use std::alloc::{AllocError, Global};
@@ -30,7 +30,7 @@ pub struct TenantCell {
     tenant: usize,
     replay: Replay,
     askers: Vec<usize>,
-    slots: SlotBooks,
+    slots: SlotRecords,
 }
 
 impl Drop for TenantCell {
@@ -77,7 +77,7 @@ impl TenantCell {
             tenant,
             replay: Replay::new(alloc, config)?,
             askers: Vec::with_capacity(alloc, steps)?,
-            slots: SlotBooks::new(alloc, tenant, &config)?,
+            slots: SlotRecords::new(alloc, tenant, &config)?,
         })
     }
 

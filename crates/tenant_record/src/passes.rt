@@ -12,8 +12,8 @@ use std::alloc::{AllocError, Global};
 use std::marker::Model;
 
 /// The right to move a slot of a tenant. It can't be copied or let go: whoever has it gives it home, or hands it on. It
-/// keeps what its holders were told: the entries of the slot, in order, whether a move was refused as at a full history,
-/// and the count of entries at which the slot was last found idle, unless it was touched since.
+/// keeps what its holders were told: the entries of the slot, in order, whether a move was refused as at a full
+/// history, and the count of entries at which the slot was last found idle, unless it was touched since.
 pub struct Pass {
     // On the heap, so that a pass that is handed on is one pointer.
     kept: Box<Kept>,

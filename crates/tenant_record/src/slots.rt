@@ -19,9 +19,9 @@ use std::alloc::{AllocError, Global};
 /// What is kept of each slot of a tenant: how many entries it has, the count of entries at which it
 /// was last found idle, unless it was touched since, and where its pass is.
 #[derive(Drop)]
-pub(crate) struct SlotBooks {
+pub(crate) struct SlotRecords {
     pub(crate) counts: [usize; MAX_SLOTS as usize],
-    pub(crate) stills: [Option<usize>; MAX_SLOTS as usize],
+    pub(crate) idle_since: [Option<usize>; MAX_SLOTS as usize],
     pub(crate) home: Vec<Place>,
 }
 
@@ -43,22 +43,22 @@ pub struct Arrived {
     pub pass: Option<Pass>,
 }
 
-impl SlotBooks {
+impl SlotRecords {
     /// The slots of a tenant that has done nothing yet: all passes are home.
     pub(crate) fn new(
         alloc: Global,
         tenant: usize,
         config: &TenantConfig,
-    ) -> Result<SlotBooks, AllocError>
+    ) -> Result<SlotRecords, AllocError>
         ensures counts { IfOk result (λ slots. slots.counts ≡ replicate MAX_SLOTS 0) }
-        ensures stills { IfOk result (λ slots. slots.stills ≡ replicate MAX_SLOTS None) }
+        ensures idle_since { IfOk result (λ slots. slots.idle_since ≡ replicate MAX_SLOTS None) }
         ensures home { IfOk result (λ slots. slots.home.items
             ≡ first_places tenant config.now.steps config.now.slots) }
     {
         let config = config.tenant();
-        Ok(SlotBooks {
+        Ok(SlotRecords {
             counts: [0; MAX_SLOTS as usize],
-            stills: [None; MAX_SLOTS as usize],
+            idle_since: [None; MAX_SLOTS as usize],
             home: first_places(alloc, tenant, config.steps, config.slots)?,
         })
     }
@@ -79,7 +79,7 @@ impl SlotBooks {
         ensures moved { result.moved ≡ moved }
         ensures counts { self.new.counts
             ≡ counted self.old.counts pass.slot (is_entry (Answer.Moved moved)) }
-        ensures stills { self.new.stills ≡ marked self.old.stills pass.slot moved entries }
+        ensures idle_since { self.new.idle_since ≡ marked self.old.idle_since pass.slot moved entries }
         ensures pass { result.pass ≡ pass_back pass moved entries }
         ensures due { result.due ≡ due_in replay.now (is_entry (Answer.Moved moved))
             (home_after self.old.home.items pass moved entries) }
@@ -91,7 +91,7 @@ impl SlotBooks {
         let has_entered = Answer::Moved(moved).is_entry();
         pass.tell_move(moved, entries);
         count(&mut self.counts, slot, has_entered);
-        mark(&mut self.stills, slot, moved, entries);
+        mark(&mut self.idle_since, slot, moved, entries);
         let pass = keep(self.home.as_mut_slice(), pass, moved);
         let due = call(self.home.as_mut_slice(), replay, has_entered);
         Advanced { moved, due, pass }
@@ -107,8 +107,8 @@ impl SlotBooks {
         ensures came { result.came ≡ came }
         ensures counts { self.new.counts
             ≡ counted self.old.counts slot (is_entry (Answer.Came came)) }
-        ensures stills { self.new.stills
-            ≡ touched (entered slot (is_entry (Answer.Came came))) self.old.stills }
+        ensures idle_since { self.new.idle_since
+            ≡ touched (entered slot (is_entry (Answer.Came came))) self.old.idle_since }
         ensures pass { result.pass ≡ arrived_pass came (pass_in (place self.old.home.items slot)) }
         ensures due { result.due ≡ due_in replay.now (is_entry (Answer.Came came))
             (home_arrived self.old.home.items slot came) }
@@ -118,7 +118,7 @@ impl SlotBooks {
         let has_entered = Answer::Came(came).is_entry();
         count(&mut self.counts, slot, has_entered);
         touch(
-            &mut self.stills,
+            &mut self.idle_since,
             if has_entered { Some(slot) } else { None },
         );
         let pass = admit(self.home.as_mut_slice(), slot, came);
@@ -133,7 +133,7 @@ impl SlotBooks {
         requires slots { length self.old.home.items ≡ replay.now.config.slots }
         requires most { replay.now.config.slots ≤ MAX_SLOTS }
         ensures counts { self.new.counts ≡ self.old.counts }
-        ensures stills { self.new.stills ≡ touched (placed_on reply.now) self.old.stills }
+        ensures idle_since { self.new.idle_since ≡ touched (placed_on reply.now) self.old.idle_since }
         ensures pass { result.1 ≡ placed_pass (placed_on reply.now) self.old.home.items }
         ensures due { result.0 ≡ due_in replay.now (is_recorded_reply reply.now)
             (taken (placed_on reply.now) self.old.home.items) }
@@ -141,7 +141,7 @@ impl SlotBooks {
             ≡ woken result.0 (taken (placed_on reply.now) self.old.home.items) }
     {
         let placed = placed_on(reply);
-        touch(&mut self.stills, placed);
+        touch(&mut self.idle_since, placed);
         let pass = hand_out(self.home.as_mut_slice(), placed);
         let due = call(self.home.as_mut_slice(), replay, reply.is_recorded());
         (due, pass)
@@ -160,21 +160,26 @@ fn count(counts: &mut [usize; MAX_SLOTS as usize], slot: u8, has_entered: bool)
 }
 
 /// Notes at which count of entries a slot was last found idle, after an advance of it.
-fn mark(stills: &mut [Option<usize>; MAX_SLOTS as usize], slot: u8, moved: Moved, entries: usize)
+fn mark(
+    idle_since: &mut [Option<usize>; MAX_SLOTS as usize],
+    slot: u8,
+    moved: Moved,
+    entries: usize,
+)
     requires { slot < MAX_SLOTS }
-    ensures { stills.new ≡ marked stills.old slot moved entries }
+    ensures { idle_since.new ≡ marked idle_since.old slot moved entries }
 {
     let at = slot as usize;
-    stills[at] = still_after(stills[at], moved, entries);
+    idle_since[at] = still_after(idle_since[at], moved, entries);
 }
 
 /// Notes that a slot, if one is named, is not known to be idle.
-fn touch(stills: &mut [Option<usize>; MAX_SLOTS as usize], slot: Option<u8>)
+fn touch(idle_since: &mut [Option<usize>; MAX_SLOTS as usize], slot: Option<u8>)
     requires { IfSome slot (λ slot. slot < MAX_SLOTS) }
-    ensures { stills.new ≡ touched slot stills.old }
+    ensures { idle_since.new ≡ touched slot idle_since.old }
 {
     if let Some(slot) = slot {
-        stills[slot as usize] = None;
+        idle_since[slot as usize] = None;
     }
 }
 

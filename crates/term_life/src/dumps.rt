@@ -37,8 +37,8 @@ impl Shelf {
     }
 
     /// Notes that the dump of a term is there, and takes the oldest one away if at least `keep` newer ones are there
-    /// then: its number. None if all of them are to stay. If those that were there are all among the newest `keep`, so are
-    /// those that stay. If an allocation fails, nothing has changed.
+    /// then: its number. None if all of them are to stay. If those that were there are all among the newest `keep`, so
+    /// are those that stay. If an allocation fails, nothing has changed.
     pub fn put(&mut self, number: u64, keep: u64) -> Result<Option<u64>, AllocError>
         ensures all { result ≡ Ok None → self.new ≡ self.old ++ (number ∷ []) }
         ensures was_there { IfOk result

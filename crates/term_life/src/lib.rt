@@ -1,5 +1,6 @@
-//! What a host decides of its tenants' terms: their lives, with the numbers of their jobs; whose turn it is among tenants;
-//! whether one more worker is to come; how long a connection may do nothing; and which outcomes and dumps stay.
+//! What a host decides of its tenants' terms: their lives, with the numbers of their jobs; whose turn it is among
+//! tenants; whether one more worker is to come; how long a connection may do nothing; and which outcomes and dumps
+//! stay.
 #![tactic(auto)]
 
 mod dumps;

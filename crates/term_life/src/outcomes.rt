@@ -118,8 +118,8 @@ impl Outcomes {
         self.ended.reserve(1)
     }
 
-    /// Keeps the outcomes of one more term, and forgets those of the oldest one if they are too many. If an allocation fails,
-    /// nothing has changed.
+    /// Keeps the outcomes of one more term, and forgets those of the oldest one if they are too many. If an allocation
+    /// fails, nothing has changed.
     pub fn add(&mut self, span: Span, outcomes: Vec<Outcome>) -> Result<(), AllocError>
         ensures added { OnOk result (self.new ≡ with_ended span outcomes.items self.old) }
         ensures refused { OnErr result (self.new ≡ self.old) }

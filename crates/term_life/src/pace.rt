@@ -10,8 +10,8 @@ pub const MOST_HELD: u64 = 50_000;
 /// Over how long the pace of a term is taken at least, in microseconds.
 pub const STRETCH: u64 = 50;
 
-/// From how many half microseconds an entry on the tenant's lock is free for most of the time, so that one more thread makes
-/// it faster. Below that the lock would go from processor to processor, which takes longer than the entries.
+/// From how many half microseconds an entry on the tenant's lock is free for most of the time, so that one more thread
+/// makes it faster. Below that the lock would go from processor to processor, which takes longer than the entries.
 pub const SLOW: u128 = 2;
 
 /// Up to how many half microseconds an entry the threads that are there are in each other's way.
@@ -51,9 +51,9 @@ pub enum Verdict {
     Leaves,
 }
 
-/// How fast the threads at the slots of a term get on. A worker that has a call of the term comes if a job was submitted
-/// since the one before it came, or if entries take long, as they do if all threads there wait. Else the call is held back,
-/// but not for longer than `MOST_HELD`.
+/// How fast the threads at the slots of a term get on. A worker that has a call of the term comes if a job was
+/// submitted since the one before it came, or if entries take long, as they do if all threads there wait. Else the call
+/// is held back, but not for longer than `MOST_HELD`.
 #[derive(Clone, Copy)]
 pub struct Pace {
     /// How many jobs had been submitted when a worker last came.

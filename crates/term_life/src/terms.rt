@@ -84,8 +84,8 @@ impl Term {
     }
 }
 
-/// The terms of a tenant that are not closed, in the order in which they were opened. Each has the numbers of its jobs for
-/// itself: those that no other one had, nor will have.
+/// The terms of a tenant that are not closed, in the order in which they were opened. Each has the numbers of its jobs
+/// for itself: those that no other one had, nor will have.
 #[derive(Drop)]
 pub struct Terms {
     /// The oldest first.
@@ -167,9 +167,9 @@ impl Terms {
             .find(|term| term.base < job && job - term.base <= term.room)
     }
 
-    /// Opens the next term, with room for so many jobs, which serves from now on. The one that served goes on for the jobs
-    /// that it has; it was left for that reason. None if no numbers are left for so many jobs, or none for a term; then
-    /// nothing has changed, and neither has it if an allocation fails.
+    /// Opens the next term, with room for so many jobs, which serves from now on. The one that served goes on for the
+    /// jobs that it has; it was left for that reason. None if no numbers are left for so many jobs, or none for a term;
+    /// then nothing has changed, and neither has it if an allocation fails.
     pub fn open(&mut self, why: Why, room: u64) -> Result<Option<Term>, AllocError>
         ensures opened { IfOk result (λ made. IfSome made
             (λ term. (term ≡ next_term room self.old) × (self.new ≡ opened why room self.old))) }

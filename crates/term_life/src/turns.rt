@@ -2,8 +2,8 @@
 ghost use Rattle.std.specs.Prelude.{◌≡◌, ◌<◌, ◌≤◌, ℕ, IfSome, None, length};
 ghost use Rattle.term_life.specs.Turns.{IsFirst, IsNext, Waits};
 
-/// The place whose turn it is among those that wait, which stand in a ring, after the turn of the last one. None if none
-/// waits.
+/// The place whose turn it is among those that wait, which stand in a ring, after the turn of the last one. None if
+/// none waits.
 pub fn next_turn(waits: &[bool], last: usize) -> Option<usize>
     requires { last < length waits.now }
     ensures next { IfSome result (λ place. IsNext waits.now last place) }

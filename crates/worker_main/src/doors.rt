@@ -16,7 +16,7 @@ use nested_wait::MAX_HEIGHT;
 /// implementation gives. A call that makes a slot due gives the call for a worker that is to be
 /// pushed. If it leads to no slot its height is 0, it sees a bare slot, its turns are idle, and a
 /// pause says to stop.
-pub trait DueDoor {
+pub trait SlotAccess {
     /// How many tenants there are.
     ghost tenants: { Self → ℕ };
 
@@ -90,7 +90,7 @@ pub trait DueDoor {
 }
 
 /// A worker's ways to the slots of all tenants.
-pub trait CallDoors: DueDoor {
+pub trait WorkerAccess: SlotAccess {
     /// What arriving for a call, with this answer and due slot, may lead to.
     ghost arrives: { Self → Call → Came → Option Call → Self → Type 0 };
 

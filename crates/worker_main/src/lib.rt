@@ -12,7 +12,7 @@ mod visits;
 mod working;
 
 pub use bell::Bell;
-pub use doors::{CallDoors, DueDoor};
+pub use doors::{SlotAccess, WorkerAccess};
 pub use gate::{Gate, NoGate};
 pub use ringer::Ringer;
 pub use signal::Signal;

@@ -29,8 +29,8 @@ pub trait Signal {
         ensures goes { result ≡ true → looked self.now look }
         ensures stops { result ≡ false → stops self.now };
 
-    /// Whether a worker who shares is awaited where this signal is heard, beside the calls in the queues that it serves. It
-    /// waits for nobody.
+    /// Whether a worker who shares is awaited where this signal is heard, beside the calls in the queues that it
+    /// serves. It waits for nobody.
     fn is_awaited(&self) -> bool;
 
     /// Waits until that number is no longer the one that was heard, or the workers must stop.

@@ -2,7 +2,7 @@
 ghost use Rattle.std.specs.Prelude.{◌≡◌, ◌≤◌, length};
 ghost use Rattle.worker_main.specs.Slots.{views_of, commits_of, advances_of, heights_of, pauses_of, Homes, HandsOver, Arrives, PopsAt};
 
-use crate::doors::{CallDoors, DueDoor};
+use crate::doors::{SlotAccess, WorkerAccess};
 use crate::gate::Gate;
 use crate::ringer::Ringer;
 use crate::signal::Signal;
@@ -17,13 +17,13 @@ use std::sync::Wait;
 /// The door of a worker, a caller or a session. It pushes the call of each slot that becomes due and
 /// rings, and its segments pass a gate.
 #[derive(Drop)]
-pub struct SlotDoor<'q, R: Wait, S: Signal, G: Gate, D: DueDoor> {
+pub struct SlotDoor<'q, R: Wait, S: Signal, G: Gate, D: SlotAccess> {
     ringer: Ringer<'q, R, S>,
     gate: &'q G,
     doors: D,
 }
 
-impl<'q, R: Wait, S: Signal, G: Gate, D: DueDoor> Model for SlotDoor<'q, R, S, G, D> {
+impl<'q, R: Wait, S: Signal, G: Gate, D: SlotAccess> Model for SlotDoor<'q, R, S, G, D> {
     ghost use Rattle.std.specs.Prelude.{◌≤◌, length};
     ghost use Rattle.worker_main.specs.Slots.{SlotSeen};
 
@@ -34,7 +34,7 @@ impl<'q, R: Wait, S: Signal, G: Gate, D: DueDoor> Model for SlotDoor<'q, R, S, G
     ghost invariant = { λ s. D.tenants s.doors ≤ length s.ringer.queues.config };
 }
 
-impl<'q, R: Wait, S: Signal, G: Gate, D: DueDoor> SlotDoor<'q, R, S, G, D> {
+impl<'q, R: Wait, S: Signal, G: Gate, D: SlotAccess> SlotDoor<'q, R, S, G, D> {
     /// The door of the slots that the doors lead to.
     pub fn new(ringer: Ringer<'q, R, S>, gate: &'q G, doors: D) -> Self
         requires { D.tenants doors ≤ length ringer.queues.config }
@@ -96,7 +96,7 @@ impl<'q, R: Wait, S: Signal, G: Gate, D: DueDoor> SlotDoor<'q, R, S, G, D> {
     }
 }
 
-impl<'q, R: Wait, S: Signal, G: Gate, D: CallDoors> SlotDoor<'q, R, S, G, D> {
+impl<'q, R: Wait, S: Signal, G: Gate, D: WorkerAccess> SlotDoor<'q, R, S, G, D> {
     /// Arrives at the slot of a call.
     pub fn arrive(&mut self, call: Call) -> Came
         ensures { Arrives D.arrives self.old call result self.new }
@@ -107,7 +107,7 @@ impl<'q, R: Wait, S: Signal, G: Gate, D: CallDoors> SlotDoor<'q, R, S, G, D> {
     }
 }
 
-impl<'q, R: Wait, S: Signal, G: Gate, D: DueDoor> Door for SlotDoor<'q, R, S, G, D> {
+impl<'q, R: Wait, S: Signal, G: Gate, D: SlotAccess> Door for SlotDoor<'q, R, S, G, D> {
     ghost views = { views_of D.views };
 
     ghost commits = { commits_of D.commits };

@@ -3,7 +3,7 @@ ghost use Rattle.std.specs.Prelude.{◌≡◌};
 ghost use Rattle.worker_main.specs.Slots.{ways};
 ghost use Rattle.worker_main.specs.Visits.{after_pause, next_round, told, AfterBelow, TakesRound, Visits, Comes};
 
-use crate::doors::CallDoors;
+use crate::doors::WorkerAccess;
 use crate::gate::Gate;
 use crate::signal::Signal;
 use crate::slot_door::SlotDoor;
@@ -35,7 +35,7 @@ where
     R: Wait,
     S: Signal,
     G: Gate,
-    D: CallDoors,
+    D: WorkerAccess,
     ensures { Comes (ways D.views D.commits D.advances D.heights D.pauses D.homes D.hands D.arrives)
         visiting (told (S.stops signal.now) (S.looked signal.now)) call door.old door.new }
 {
@@ -52,7 +52,7 @@ where
     R: Wait,
     S: Signal,
     G: Gate,
-    D: CallDoors,
+    D: WorkerAccess,
     ensures { Visits (ways D.views D.commits D.advances D.heights D.pauses D.homes D.hands
         D.arrives) visiting (told (S.stops signal.now) (S.looked signal.now)) door.old door.new }
 {
@@ -75,7 +75,7 @@ where
     R: Wait,
     S: Signal,
     G: Gate,
-    D: CallDoors,
+    D: WorkerAccess,
     ensures { TakesRound (ways D.views D.commits D.advances D.heights D.pauses D.homes D.hands
         D.arrives) visiting result door.old door.new }
 {
@@ -103,7 +103,7 @@ where
     R: Wait,
     S: Signal,
     G: Gate,
-    D: CallDoors,
+    D: WorkerAccess,
     ensures { AfterBelow (ways D.views D.commits D.advances D.heights D.pauses D.homes D.hands
         D.arrives) visiting result door.old door.new }
 {

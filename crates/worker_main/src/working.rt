@@ -4,7 +4,7 @@ ghost use Rattle.worker_main.specs.Slots.{ways};
 ghost use Rattle.worker_main.specs.Visits.{told};
 ghost use Rattle.worker_main.specs.Works.{ServesCall, TakesTurn, Works};
 
-use crate::doors::CallDoors;
+use crate::doors::WorkerAccess;
 use crate::gate::Gate;
 use crate::ringer::Ringer;
 use crate::signal::Signal;
@@ -31,7 +31,7 @@ where
     R: Wait,
     S: Signal,
     G: Gate,
-    D: CallDoors,
+    D: WorkerAccess,
     requires pass { pass.queues ≡ queues.now.queues }
     requires tenants { D.tenants doors ≤ length queues.now.config }
     ensures pass { (result.0.queues ≡ pass.queues) × (result.0.number ≡ pass.number) }
@@ -60,7 +60,7 @@ where
     R: Wait,
     S: Signal,
     G: Gate,
-    D: CallDoors,
+    D: WorkerAccess,
     requires pass { pass.queues ≡ queues.now.queues }
     requires tenants { D.tenants doors ≤ length queues.now.config }
     ensures queues { result.0.queues ≡ pass.queues }
@@ -85,7 +85,7 @@ where
     R: Wait,
     S: Signal,
     G: Gate,
-    D: CallDoors,
+    D: WorkerAccess,
     ensures { ServesCall (ways D.views D.commits D.advances D.heights D.pauses D.homes D.hands
         D.arrives) visiting (told (S.stops signal.now) (S.looked signal.now)) result door.old
         door.new }
@@ -105,7 +105,7 @@ where
     R: Wait,
     S: Signal,
     G: Gate,
-    D: CallDoors,
+    D: WorkerAccess,
     ensures { Works (ways D.views D.commits D.advances D.heights D.pauses D.homes D.hands D.arrives)
         visiting (told (S.stops signal.now) (S.looked signal.now)) door.old door.new }
 {
@@ -129,7 +129,7 @@ where
     R: Wait,
     S: Signal,
     G: Gate,
-    D: CallDoors,
+    D: WorkerAccess,
     requires { S.hears signal.now heard }
     ensures { TakesTurn (ways D.views D.commits D.advances D.heights D.pauses D.homes D.hands
         D.arrives) visiting (told (S.stops signal.now) (S.looked signal.now)) door.old door.new }

@@ -20,7 +20,7 @@ pub trait TenantArena: Drop {
     fn new(alloc: Global, config: TenantConfig) -> Result<Self, AllocError>
         ensures { IfOk result (λ arena. stands_for arena (empty config)) };
 
-    /// How many of its slots are for masters; these come first.
+    /// How many of its slots are reserved; these come first.
     fn reserved(&self) -> u8
         ensures { (s : State) → stands_for self.now s → result ≡ s.config.reserved };
 

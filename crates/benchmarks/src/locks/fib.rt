@@ -16,7 +16,8 @@ use worker_main::NoGate;
 /// More entries than the job makes.
 const STEPS: usize = 10_000;
 
-/// Executes the job on a tenant of three slots, of which one is reserved. The session attends that slot. The job's value.
+/// Executes the job on a tenant of three slots, of which one is reserved. The session attends that slot. The job's
+/// value.
 pub(crate) fn execute<R: Threads + Wait + Sync>(rt: &R, alloc: Global) -> Result<i64, Stop> {
     execute_in::<Brand, R>(rt, alloc, OpenedRegistry::new())
 }

@@ -1,8 +1,8 @@
 // The files of a term that is closed, and what is told of it.
 
+use crate::context::HostContext;
 use crate::files::put_text;
 use crate::results::outcomes_text;
-use crate::site::Site;
 use dump_files::{Broken, Whole};
 use dump_lines::DumpFault;
 use host_status::ClosedTerm;
@@ -16,25 +16,25 @@ use tenant_book::Naming;
 /// The path of a term's dump.
 pub(super) fn dump_path<J: Naming>(
     alloc: Global,
-    site: Site<'_, J>,
+    context: HostContext<'_, J>,
     end: &TermEnd,
 ) -> Result<String, AllocError> {
     let named = end.tenant.tenant().name;
-    site.folder.dump(alloc, named.as_str(), end.span.number)
+    context.folder.dump(alloc, named.as_str(), end.span.number)
 }
 
 /// Lets a part that was written take its place, or removes it.
 pub(super) fn keep_part<J: Naming, R>(
     rt: &R,
     alloc: Global,
-    site: Site<'_, J>,
+    context: HostContext<'_, J>,
     end: &TermEnd,
     written: Result<Whole<File>, Broken<File>>,
 ) -> Result<(), DumpFault>
 where
     R: Files<File = File>,
 {
-    match (written, dump_path(alloc, site, end)) {
+    match (written, dump_path(alloc, context, end)) {
         (Ok(whole), Ok(path)) => {
             let _kept = whole.keep(rt, path.as_str())?;
             Ok(())
@@ -56,19 +56,21 @@ where
 pub(super) fn put_outcomes<J: Naming, R>(
     rt: &R,
     alloc: Global,
-    site: Site<'_, J>,
+    context: HostContext<'_, J>,
     end: &TermEnd,
 ) -> Result<(), std::io::Error>
 where
     R: Files<File = File>,
 {
     let named = end.tenant.tenant().name;
-    let path = site.folder.result(alloc, named.as_str(), end.span.number)?;
+    let path = context
+        .folder
+        .result(alloc, named.as_str(), end.span.number)?;
     let text = outcomes_text(alloc, end.outcomes.as_slice())?;
     put_text(
         rt,
         alloc,
-        site.folder.results.as_str(),
+        context.folder.results.as_str(),
         path.as_str(),
         text.as_slice(),
     )
@@ -78,12 +80,12 @@ where
 pub(super) fn remove_journal<J: Naming, R: Files<File = File>>(
     rt: &R,
     alloc: Global,
-    site: Site<'_, J>,
+    context: HostContext<'_, J>,
     end: &TermEnd,
 ) {
     let named = end.tenant.tenant().name;
     let (number, base) = (end.span.number, end.span.base);
-    if let Ok(path) = site.folder.journal(alloc, named.as_str(), number, base) {
+    if let Ok(path) = context.folder.journal(alloc, named.as_str(), number, base) {
         // It is removed at the next start if it can't be now.
         let _ = fs::remove_file(rt, path.as_str());
     }
@@ -93,7 +95,7 @@ pub(super) fn remove_journal<J: Naming, R: Files<File = File>>(
 pub(super) fn tell_end<J: Naming, R: Wait>(
     rt: &R,
     alloc: Global,
-    site: Site<'_, J>,
+    context: HostContext<'_, J>,
     end: &TermEnd,
 ) {
     let named = end.tenant.tenant().name;
@@ -111,7 +113,7 @@ pub(super) fn tell_end<J: Naming, R: Wait>(
         None => return,
     };
     // Whoever reads it learns the same from the status, so it may be lost.
-    site.outlet.print(rt, line);
+    context.outlet.print(rt, line);
 }
 
 /// What the status shows of a term that was closed at that time, in seconds since 1970, within so many milliseconds.

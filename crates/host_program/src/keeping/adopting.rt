@@ -1,13 +1,13 @@
 // The thread that looks after terms takes up the tenants of a configuration.
 
 use super::{Keeper, Tended};
+use crate::context::HostContext;
 use crate::folders::Begin;
 use crate::forgetting::{begin_notes, read_notes};
-use crate::site::Site;
 use crate::system::System;
 use host_terms::Tenancy;
 use job_language::{Config, TenantConfig};
-use server_io::ServerEnd;
+use server_io::ServerFault;
 use std::alloc::{AllocError, Global};
 use std::sync::{Arc, Wait};
 use tenant_book::Naming;
@@ -20,18 +20,18 @@ impl<J: Naming> Keeper<J> {
         &mut self,
         rt: &R,
         alloc: Global,
-        site: Site<'_, J>,
+        context: HostContext<'_, J>,
         config: &Config,
-    ) -> Result<(), ServerEnd> {
+    ) -> Result<(), ServerFault> {
         for tended in self.tended.iter_mut() {
             tended.is_configured = false;
         }
         for tenant in config.tenants() {
-            self.adopt_tenant(rt, alloc, site, tenant)?;
+            self.adopt_tenant(rt, alloc, context, tenant)?;
         }
         for tenant in 0..self.tended.len() {
             if !self.tended[tenant].is_configured {
-                if let Some(tenancy) = site.host.tenancy(rt, tenant) {
+                if let Some(tenancy) = context.host.tenancy(rt, tenant) {
                     tenancy.leave(rt, Why::Config);
                 }
             }
@@ -43,17 +43,17 @@ impl<J: Naming> Keeper<J> {
         &mut self,
         rt: &R,
         alloc: Global,
-        site: Site<'_, J>,
+        context: HostContext<'_, J>,
         tenant: &TenantConfig,
-    ) -> Result<(), ServerEnd> {
+    ) -> Result<(), ServerFault> {
         let name = tenant.tenant().name;
-        let Some(number) = site.host.find(rt, name) else {
-            return self.add_tenant(rt, alloc, site, tenant);
+        let Some(number) = context.host.find(rt, name) else {
+            return self.add_tenant(rt, alloc, context, tenant);
         };
         if let Some(tended) = self.tended.get_mut(number) {
             tended.is_configured = true;
         }
-        let Some(tenancy) = site.host.tenancy(rt, number) else {
+        let Some(tenancy) = context.host.tenancy(rt, number) else {
             return Ok(());
         };
         match tenancy.serving(rt) {
@@ -71,28 +71,28 @@ impl<J: Naming> Keeper<J> {
         &mut self,
         rt: &R,
         alloc: Global,
-        site: Site<'_, J>,
+        context: HostContext<'_, J>,
         tenant: &TenantConfig,
-    ) -> Result<(), ServerEnd> {
+    ) -> Result<(), ServerFault> {
         let named = tenant.tenant().name;
         let name = named.as_str();
         let shelves = self.filing.shelves();
-        let Begin { number, base } = site.folder.begin(rt, alloc, name, shelves)?;
-        let keep = site.words.keep as usize;
-        let tenancy = Tenancy::new(alloc, named, number, base.min(MOST_JOBS), keep)?;
+        let Begin { number, base } = context.folder.begin(rt, alloc, name, shelves)?;
+        let keep = context.words.keep as usize;
+        let tenancy = Tenancy::new(alloc, named, number, base.min(MOST_JOBS), keep);
         let tenancy = shared(alloc, tenancy)?;
-        let forgotten = read_notes(rt, alloc, site, name)?;
+        let forgotten = read_notes(rt, alloc, context, name)?;
         for term in shelves.numbers(name) {
             if !forgotten.has_retired(*term) {
-                let mut outcomes = site.folder.outcomes(rt, alloc, name, *term)?;
+                let mut outcomes = context.folder.outcomes(rt, alloc, name, *term)?;
                 forgotten.leave_out_of(&mut outcomes);
                 keep_outcomes(rt, &tenancy, *term, outcomes)?;
             }
         }
-        tenancy.note_in(rt, begin_notes(rt, alloc, site, name, number)?);
+        tenancy.note_in(rt, begin_notes(rt, alloc, context, name, number)?);
         tenancy.wish(rt, Why::Config);
         self.tended.reserve(1)?;
-        site.host.add(rt, alloc, tenancy)?;
+        context.host.add(rt, alloc, tenancy)?;
         self.tended.push_reserved(Tended {
             rest: 0,
             is_held: false,

@@ -2,8 +2,8 @@
 
 use super::{Keeper, Parting};
 use crate::clocks::millis;
-use crate::site::Site;
-use crate::writing::{Left, Writer};
+use crate::context::HostContext;
+use crate::writing::{UnfiledTerm, Writer};
 use std::alloc::{AllocError, Global};
 use std::fs::{File, Files};
 use std::sync::Wait;
@@ -17,16 +17,16 @@ impl<J: Naming> Keeper<J> {
         &mut self,
         rt: &R,
         alloc: Global,
-        site: Site<'_, J>,
+        context: HostContext<'_, J>,
         writer: &Writer,
         is_forced: bool,
     ) {
         for tenant in 0..self.tended.len() {
             // Without memory it is tried again.
-            let _ = self.part(rt, alloc, site, tenant, is_forced);
+            let _ = self.part(rt, alloc, context, tenant, is_forced);
         }
-        self.close_parted(rt, alloc, site);
-        self.filing.go_on(rt, alloc, site, writer);
+        self.close_parted(rt, alloc, context);
+        self.filing.go_on(rt, alloc, context, writer);
     }
 
     /// Takes out a term of a tenant that is done.
@@ -34,14 +34,14 @@ impl<J: Naming> Keeper<J> {
         &mut self,
         rt: &R,
         alloc: Global,
-        site: Site<'_, J>,
+        context: HostContext<'_, J>,
         tenant: usize,
         is_forced: bool,
     ) -> Result<(), AllocError> {
         self.parting.reserve(1)?;
-        let ending = site
+        let ending = context
             .host
-            .next_ending(rt, alloc, tenant, site.desks, is_forced)?;
+            .next_ending(rt, alloc, tenant, context.desks, is_forced)?;
         if let Some(ending) = ending {
             self.parting.push_reserved(Parting {
                 tenant,
@@ -54,7 +54,12 @@ impl<J: Naming> Keeper<J> {
 
     /// Closes each of the terms that were taken out, if no worker is there any more and there is memory for it; else it
     /// becomes the last.
-    fn close_parted<R: Wait + Clock>(&mut self, rt: &R, alloc: Global, site: Site<'_, J>) {
+    fn close_parted<R: Wait + Clock>(
+        &mut self,
+        rt: &R,
+        alloc: Global,
+        context: HostContext<'_, J>,
+    ) {
         for _parting in 0..self.parting.len() {
             // Without memory for it among the terms whose files are to be written, it is closed later.
             if self.parting.is_empty() || self.filing.make_room().is_err() {
@@ -65,12 +70,12 @@ impl<J: Naming> Keeper<J> {
                 ending,
                 since,
             } = self.parting.remove(0);
-            match ending.close(rt, alloc, site.host) {
+            match ending.close(rt, alloc, context.host) {
                 Ok(end) => self.filing.add(
                     rt,
                     alloc,
-                    site,
-                    Left {
+                    context,
+                    UnfiledTerm {
                         tenant,
                         end,
                         since,

@@ -5,15 +5,15 @@ ghost use Rattle.term_life.specs.declared.terms.TheConstants.{MOST_JOBS};
 use super::Keeper;
 use crate::clocks::{millis, seconds};
 use crate::configs::read_config;
+use crate::context::HostContext;
 use crate::ends::event_fault;
 use crate::forgetting::begin_notes;
 use crate::journaling::begin_journal;
-use crate::site::Site;
 use crate::system::System;
 use host_status::{Event, Fault};
 use host_terms::{HostTerm, Tenancy};
 use job_language::{Config, TenantConfig};
-use server_io::ServerEnd;
+use server_io::ServerFault;
 use std::alloc::Global;
 use std::fs::{File, Files};
 use std::sync::Wait;
@@ -30,10 +30,10 @@ impl<J: Naming> Keeper<J> {
         &mut self,
         rt: &R,
         alloc: Global,
-        site: Site<'_, J>,
-    ) -> Result<(), ServerEnd> {
+        context: HostContext<'_, J>,
+    ) -> Result<(), ServerFault> {
         for tenant in 0..self.tended.len() {
-            self.open(rt, alloc, site, tenant, Why::Config)?;
+            self.open(rt, alloc, context, tenant, Why::Config)?;
         }
         Ok(())
     }
@@ -43,22 +43,22 @@ impl<J: Naming> Keeper<J> {
         &mut self,
         rt: &R,
         alloc: Global,
-        site: Site<'_, J>,
+        context: HostContext<'_, J>,
         tenant: usize,
         tenancy: &Tenancy<J>,
         why: Why,
     ) {
         let named = tenancy.name();
         if let Some(term) = tenancy.serving(rt) {
-            say_rotation(rt, alloc, site, named.as_str(), term.span().number, why);
+            say_rotation(rt, alloc, context, named.as_str(), term.span().number, why);
         }
-        let opened = match read_config(rt, alloc, site.words.config) {
-            Ok(config) => self.adopt_and_open(rt, alloc, site, tenant, &config, why),
+        let opened = match read_config(rt, alloc, context.words.config) {
+            Ok(config) => self.adopt_and_open(rt, alloc, context, tenant, &config, why),
             Err(fault) => Err(fault),
         };
         if let Err(fault) = opened {
             let what = event_fault(fault);
-            site.say_fault(rt, alloc, what, Some(named.as_str()), None);
+            context.say_fault(rt, alloc, what, Some(named.as_str()), None);
             if let Some(tended) = self.tended.get_mut(tenant) {
                 tended.rest = millis(rt).saturating_add(REST);
             }
@@ -74,13 +74,13 @@ impl<J: Naming> Keeper<J> {
         &mut self,
         rt: &R,
         alloc: Global,
-        site: Site<'_, J>,
+        context: HostContext<'_, J>,
         tenant: usize,
         config: &Config,
         why: Why,
-    ) -> Result<(), ServerEnd> {
-        self.adopt(rt, alloc, site, config)?;
-        self.open_by(rt, alloc, site, tenant, config, why)
+    ) -> Result<(), ServerFault> {
+        self.adopt(rt, alloc, context, config)?;
+        self.open_by(rt, alloc, context, tenant, config, why)
     }
 
     /// Opens the next term of a tenant, by the configuration that the file has.
@@ -88,12 +88,12 @@ impl<J: Naming> Keeper<J> {
         &self,
         rt: &R,
         alloc: Global,
-        site: Site<'_, J>,
+        context: HostContext<'_, J>,
         tenant: usize,
         why: Why,
-    ) -> Result<(), ServerEnd> {
-        let config = read_config(rt, alloc, site.words.config)?;
-        self.open_by(rt, alloc, site, tenant, &config, why)
+    ) -> Result<(), ServerFault> {
+        let config = read_config(rt, alloc, context.words.config)?;
+        self.open_by(rt, alloc, context, tenant, &config, why)
     }
 
     /// Opens the next term of a tenant, by a configuration. Its numbers are on the disk before it serves.
@@ -101,14 +101,14 @@ impl<J: Naming> Keeper<J> {
         &self,
         rt: &R,
         alloc: Global,
-        site: Site<'_, J>,
+        context: HostContext<'_, J>,
         tenant: usize,
         config: &Config,
         why: Why,
-    ) -> Result<(), ServerEnd> {
+    ) -> Result<(), ServerFault> {
         let asked = millis(rt);
-        let Some(tenancy) = site.host.tenancy(rt, tenant) else {
-            return Err(ServerEnd::Device);
+        let Some(tenancy) = context.host.tenancy(rt, tenant) else {
+            return Err(ServerFault::Device);
         };
         let named = tenancy.name();
         let Some(given) = config_named(config, named.as_str()) else {
@@ -117,16 +117,16 @@ impl<J: Naming> Keeper<J> {
         };
         let (number, base) = tenancy.next(rt);
         let Some(span) = next_span(number, base, &given) else {
-            site.say_fault(rt, alloc, Fault::Numbers, Some(named.as_str()), None);
-            return Err(ServerEnd::Device);
+            context.say_fault(rt, alloc, Fault::Numbers, Some(named.as_str()), None);
+            return Err(ServerFault::Device);
         };
-        site.folder.put_span(rt, alloc, named.as_str(), span)?;
-        let term = self.new_term(rt, alloc, site, span, given)?;
-        let notes = begin_notes(rt, alloc, site, named.as_str(), span.number)?;
-        site.host.begin(rt, alloc, tenant, term, why)?;
+        context.folder.put_span(rt, alloc, named.as_str(), span)?;
+        let term = self.new_term(rt, alloc, context, span, given)?;
+        let notes = begin_notes(rt, alloc, context, named.as_str(), span.number)?;
+        context.host.begin(rt, alloc, tenant, term, why)?;
         tenancy.note_in(rt, notes);
         let ms = millis(rt).saturating_sub(asked);
-        say_opened(rt, alloc, site, named.as_str(), span, ms);
+        say_opened(rt, alloc, context, named.as_str(), span, ms);
         Ok(())
     }
 
@@ -135,24 +135,24 @@ impl<J: Naming> Keeper<J> {
         &self,
         rt: &R,
         alloc: Global,
-        site: Site<'_, J>,
+        context: HostContext<'_, J>,
         span: Span,
         given: TenantConfig,
-    ) -> Result<HostTerm<J>, ServerEnd> {
+    ) -> Result<HostTerm<J>, ServerFault> {
         // A host has a place for one connection at least.
-        if site.connections == 0 {
-            return Err(ServerEnd::Words);
+        if context.connections == 0 {
+            return Err(ServerFault::Words);
         }
-        let journal = begin_journal(rt, alloc, site, span, &given)?;
+        let journal = begin_journal(rt, alloc, context, span, &given)?;
         HostTerm::open(
             rt,
             alloc,
-            site.host.registry(),
+            context.host.registry(),
             span,
             given,
             seconds(rt),
             self.workers,
-            site.connections,
+            context.connections,
             journal,
         )
     }
@@ -162,27 +162,27 @@ impl<J: Naming> Keeper<J> {
 fn say_rotation<J: Naming, R: Wait + Clock>(
     rt: &R,
     alloc: Global,
-    site: Site<'_, J>,
+    context: HostContext<'_, J>,
     tenant: &str,
     term: u64,
     why: Why,
 ) {
     if why == Why::Journal {
-        site.say_fault(rt, alloc, Fault::Journal, Some(tenant), Some(term));
+        context.say_fault(rt, alloc, Fault::Journal, Some(tenant), Some(term));
     }
-    site.say(rt, alloc, Event::Rotation { tenant, term, why });
+    context.say(rt, alloc, Event::Rotation { tenant, term, why });
 }
 
 /// Says that a term of a tenant was opened, which took so many milliseconds.
 fn say_opened<J: Naming, R: Wait + Clock>(
     rt: &R,
     alloc: Global,
-    site: Site<'_, J>,
+    context: HostContext<'_, J>,
     tenant: &str,
     span: Span,
     ms: u64,
 ) {
-    site.say(
+    context.say(
         rt,
         alloc,
         Event::Opened {
@@ -194,8 +194,8 @@ fn say_opened<J: Naming, R: Wait + Clock>(
     );
 }
 
-/// The next term of a tenant, by its number and the one after which its jobs are numbered: it has a number for each entry of
-/// its history. None if there are not as many.
+/// The next term of a tenant, by its number and the one after which its jobs are numbered: it has a number for each
+/// entry of its history. None if there are not as many.
 fn next_span(number: u64, base: u64, given: &TenantConfig) -> Option<Span>
     ensures span { IfSome result (λ span. span ≡ record { number = number; base = base; room = given.now.steps }) }
     ensures room { IfSome result (λ span. span.base + span.room ≤ MOST_JOBS) }

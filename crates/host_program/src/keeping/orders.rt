@@ -3,8 +3,8 @@
 use super::Keeper;
 use crate::clocks::millis;
 use crate::configs::read_config;
+use crate::context::HostContext;
 use crate::ends::event_fault;
-use crate::site::Site;
 use crate::system::System;
 use std::alloc::{AllocError, Global};
 use std::fs;
@@ -17,37 +17,43 @@ use term_life::Why;
 const BETWEEN_LOOKS: u64 = 50;
 
 impl<J: Naming> Keeper<J> {
-    /// Looks whether files ask for next terms: `rotate` for one of each tenant, and `rotate.NAME` for one of that tenant.
-    pub(crate) fn look_for_orders<R: System>(&mut self, rt: &R, alloc: Global, site: Site<'_, J>) {
+    /// Looks whether files ask for next terms: `rotate` for one of each tenant, and `rotate.NAME` for one of that
+    /// tenant.
+    pub(crate) fn look_for_orders<R: System>(
+        &mut self,
+        rt: &R,
+        alloc: Global,
+        context: HostContext<'_, J>,
+    ) {
         let now = millis(rt);
         if now.saturating_sub(self.looked) < BETWEEN_LOOKS {
             return;
         }
         self.looked = now;
-        let path = site.folder.rotate.as_str();
+        let path = context.folder.rotate.as_str();
         if fs::symlink_metadata(rt, path).is_err() {
             self.is_obeyed = false;
         } else if !self.is_obeyed {
             self.is_obeyed = fs::remove_file(rt, path).is_err();
-            self.rotate_all(rt, alloc, site);
+            self.rotate_all(rt, alloc, context);
         }
         for tenant in 0..self.tended.len() {
             // Without memory for a path it is looked for again.
-            let _ = self.look_for_order(rt, alloc, site, tenant);
+            let _ = self.look_for_order(rt, alloc, context, tenant);
         }
     }
 
     /// Asks for the next term of each tenant, with the tenants that the configuration has now.
-    fn rotate_all<R: System>(&mut self, rt: &R, alloc: Global, site: Site<'_, J>) {
-        let adopted = match read_config(rt, alloc, site.words.config) {
-            Ok(config) => self.adopt(rt, alloc, site, &config),
+    fn rotate_all<R: System>(&mut self, rt: &R, alloc: Global, context: HostContext<'_, J>) {
+        let adopted = match read_config(rt, alloc, context.words.config) {
+            Ok(config) => self.adopt(rt, alloc, context, &config),
             Err(fault) => Err(fault),
         };
         if let Err(fault) = adopted {
-            return site.say_fault(rt, alloc, event_fault(fault), None, None);
+            return context.say_fault(rt, alloc, event_fault(fault), None, None);
         }
         for tenant in 0..self.tended.len() {
-            if let Some(tenancy) = site.host.tenancy(rt, tenant) {
+            if let Some(tenancy) = context.host.tenancy(rt, tenant) {
                 tenancy.wish(rt, Why::File);
             }
         }
@@ -57,14 +63,14 @@ impl<J: Naming> Keeper<J> {
         &mut self,
         rt: &R,
         alloc: Global,
-        site: Site<'_, J>,
+        context: HostContext<'_, J>,
         tenant: usize,
     ) -> Result<(), AllocError> {
-        let Some(tenancy) = site.host.tenancy(rt, tenant) else {
+        let Some(tenancy) = context.host.tenancy(rt, tenant) else {
             return Ok(());
         };
         let named = tenancy.name();
-        let path = site.folder.order(alloc, named.as_str())?;
+        let path = context.folder.order(alloc, named.as_str())?;
         let Some(tended) = self.tended.get_mut(tenant) else {
             return Ok(());
         };

@@ -12,8 +12,8 @@ use term_life::STRETCH;
 use worker_main::Signal;
 
 impl<J: Naming> Host<J> {
-    /// Serves calls of all terms, as the worker of that place, until workers are told to stop. A call of a term at which
-    /// more workers would only be in each other's way is held back, and looked at from time to time.
+    /// Serves calls of all terms, as the worker of that place, until workers are told to stop. A call of a term at
+    /// which more workers would only be in each other's way is held back, and looked at from time to time.
     pub fn work<R: Wait + Clock>(&self, rt: &R, place: &Place) {
         for _turn in rt.forever() {
             let Some(heard) = self.board.bell().listen(rt) else {

@@ -15,21 +15,17 @@ use tenant_book::Naming;
 
 impl<'h, J: Naming, R: Wait + Clock> HostDoors<'h, J, R> {
     /// Releases a job, by its number outside, whose term is closed, once that is noted.
-    pub(super) fn let_go(&self, tenant: usize, job: u64, request: &Request) -> Reply
+    pub(super) fn let_go(&self, tenancy: &Tenancy<J>, job: u64, request: &Request) -> Reply
         ensures { IsKeptAnswer request.now job result ⊎ IsRefusedHere result }
     {
-        let Some(tenancy) = self.host.tenancy(self.rt, tenant) else {
-            // It is there, and too many handles on it are never out.
-            return Reply::Refused(Error::NoMemory);
-        };
         match tenancy.note_release(self.rt, self.alloc, job) {
             Ok(()) => tenancy.answer_closed(self.rt, job, request),
             Err(fault) => self.unnoted(&fault),
         }
     }
 
-    /// What the session is told if it could not be noted what is forgotten. Unless that was for lack of memory, the client
-    /// is told nothing: its connection ends.
+    /// What the session is told if it could not be noted what is forgotten. Unless that was for lack of memory, the
+    /// client is told nothing: its connection ends.
     fn unnoted(&self, fault: &io::Error) -> Reply
         ensures refused { IsRefusedHere result }
         ensures at_once { result ≢ Reply.Pending }
@@ -42,26 +38,22 @@ impl<'h, J: Naming, R: Wait + Clock> HostDoors<'h, J, R> {
     }
 
     /// Retires all jobs of the tenant, if no row of any term is open.
-    pub(super) fn retire(&self, tenant: usize) -> Reply
-        ensures answer { IsServed Request.Retire result }
+    pub(super) fn retire(&self, tenancy: &Tenancy<J>) -> Reply
+        ensures answer { IsServed tenancy.now.name Request.Retire result }
         ensures at_once { result ≢ Reply.Pending }
     {
-        let Some(tenancy) = self.host.tenancy(self.rt, tenant) else {
-            // As above.
-            return Reply::Refused(Error::NoMemory);
-        };
         if tenancy.is_busy_before(self.rt) {
             return Reply::Refused(Error::Busy);
         }
-        let Served { reply, term } = self.ask_serving(tenant, Request::Retire);
+        let Served { reply, term } = self.ask_serving(tenancy, Request::Retire);
         match reply {
-            Reply::Epoch(_) => self.retire_before(&tenancy, term, reply),
+            Reply::Epoch(_) => self.retire_before(tenancy, term, reply),
             other => other,
         }
     }
 
-    /// The jobs of all terms of the tenant before the one of that number, which has retired its own, are retired too, once
-    /// that is noted.
+    /// The jobs of all terms of the tenant before the one of that number, which has retired its own, are retired too,
+    /// once that is noted.
     fn retire_before(&self, tenancy: &Tenancy<J>, term: u64, reply: Reply) -> Reply
         requires { reply ≢ Reply.Pending }
         ensures answer { (result ≡ reply) ⊎ IsRefusedHere result }

@@ -4,9 +4,9 @@ ghost use Rattle.host_terms.specs.Answers.{IsAnswer, IsAsked, IsLooked, job_name
 ghost use Rattle.host_terms.specs.Found.{IsFound};
 
 use super::HostDoors;
-use crate::tenancies::Found;
+use crate::tenancies::{Found, Tenancy};
 use crate::terms::Booking;
-use job_language::{Error, Reply, Request};
+use job_language::{Reply, Request};
 use server_house::Told;
 use std::sync::Wait;
 use std::time::Clock;
@@ -14,28 +14,25 @@ use tenant_book::Naming;
 
 impl<'h, J: Naming, R: Wait + Clock> HostDoors<'h, J, R> {
     /// A place in the term of a job, or the reply to a request about it.
-    pub(super) fn find_owner(&self, tenant: usize, job: u64, request: &Request) -> Found<J>
-        ensures { IsFound job request.now result }
+    pub(super) fn find_owner(&self, tenancy: &Tenancy<J>, job: u64, request: &Request) -> Found<J>
+        ensures { IsFound tenancy.now.name job request.now result }
     {
         if let Some(booking) = self.desk.take_booking(self.rt) {
-            if booking.term().span().owns(job) && !booking.term().is_left() {
+            let is_own = booking.term().is_of(tenancy.name());
+            if is_own && booking.term().span().owns(job) && !booking.term().is_left() {
                 return Found::Live(booking);
             }
             self.desk.give_back(self.rt, self.alloc, booking);
         }
-        match self.host.tenancy(self.rt, tenant) {
-            Some(tenancy) => tenancy.find(self.rt, job, request),
-            // It is there, and too many handles on it are never out.
-            None => Found::Answered(Reply::Refused(Error::NoMemory)),
-        }
+        tenancy.find(self.rt, job, request)
     }
 
     /// Asks about a job, by its number outside.
-    pub(super) fn ask_owner(&self, tenant: usize, job: u64, request: Request) -> Reply
+    pub(super) fn ask_owner(&self, tenancy: &Tenancy<J>, job: u64, request: Request) -> Reply
         requires { job_named request ≡ Some job }
-        ensures { IsAnswer request result }
+        ensures { IsAnswer tenancy.now.name request result }
     {
-        match self.find_owner(tenant, job, &request) {
+        match self.find_owner(tenancy, job, &request) {
             Found::Live(booking) => {
                 let inner = booking.term().span().request_inside(request);
                 let (booking, told) = self.ask_there(booking, inner);
@@ -44,12 +41,12 @@ impl<'h, J: Naming, R: Wait + Clock> HostDoors<'h, J, R> {
                 reply
             }
             Found::Answered(reply) => reply,
-            Found::Leaving => self.let_go(tenant, job, &request),
+            Found::Leaving => self.let_go(tenancy, job, &request),
         }
     }
 
-    /// Asks a term about a job, by its number there. One that was left is only looked at if that is enough: its history is
-    /// for the jobs that it has.
+    /// Asks a term about a job, by its number there. One that was left is only looked at if that is enough: its history
+    /// is for the jobs that it has.
     fn ask_there(&self, booking: Booking<J>, request: Request) -> (Booking<J>, Told)
         ensures term { result.0.term ≡ booking.term }
         ensures asked { IsAsked booking.term request result.1

@@ -1,12 +1,12 @@
 // The places of sessions in a term.
 ghost use Rattle.std.specs.Prelude.{◌≡◌, IfSome};
-ghost use Rattle.host_terms.specs.Bookings.{seen_of};
+ghost use Rattle.host_terms.specs.Bookings.{IsOf, seen_of};
 ghost use Rattle.std.specs.Arc.{arc_value};
 ghost use Rattle.server_house.specs.Owned.{AsksThere};
 
 use super::HostTerm;
 use crate::board::{Board, TermSignal};
-use job_language::Request;
+use job_language::{Request, TenantName};
 use server_house::{OwnClient, Told};
 use std::marker::Model;
 use std::sync::{Arc, Wait};
@@ -14,10 +14,19 @@ use tenant_book::Naming;
 use tenant_lock::StopFlag;
 
 /// A session's place in a term.
-#[derive(Drop)]
 pub(crate) struct Booking<J: Naming> {
     term: Arc<HostTerm<J>>,
     client: OwnClient<J>,
+}
+
+impl<J: Naming> Drop for Booking<J> {
+    // An owner drops it in one call, not part by part at each of its ways out.
+    fn drop(self) {
+        let Booking {
+            term: _term,
+            client: _client,
+        } = self;
+    }
 }
 
 impl<J: Naming> Model for Booking<J> {
@@ -33,14 +42,19 @@ impl<J: Naming> Model for Booking<J> {
 }
 
 impl<J: Naming> Booking<J> {
-    /// A place in a term. None if all are taken, or too many handles on the term are out.
-    pub(crate) fn of<R: Wait>(rt: &R, term: &Arc<HostTerm<J>>) -> Option<Booking<J>>
-        ensures { IfSome result (λ b. b.term ≡ seen_of (arc_value term.now)) }
+    /// A place in a term of the tenant of that name. None if all are taken, or too many handles on the term are out.
+    pub(crate) fn of<R: Wait>(
+        rt: &R,
+        term: &Arc<HostTerm<J>>,
+        name: TenantName,
+    ) -> Option<Booking<J>>
+        ensures term { IfSome result (λ b. b.term ≡ seen_of (arc_value term.now)) }
+        ensures name { IfSome result (λ b. IsOf name b.term) }
     {
         let term = Arc::try_clone(term).ok()?;
         let client = term.clients.lock(rt).pop()?;
-        // Each is of the term's house. This way nobody has to believe it.
-        if client.life() != term.house.first_life() {
+        // A tenant has terms of its own alone, and each place is of its term's house. This way nobody has to believe it.
+        if !term.is_home_of(&client, name) {
             return None;
         }
         Some(Booking { term, client })

@@ -25,8 +25,8 @@ impl<J: Naming> HostTerm<J> {
         comes
     }
 
-    /// Lets workers come for its calls that are held back, if one is to come by now: for all of them, since threads that are
-    /// in each other's way leave again.
+    /// Lets workers come for its calls that are held back, if one is to come by now: for all of them, since threads
+    /// that are in each other's way leave again.
     pub(crate) fn look_at_held<R: Wait + Clock>(&self, rt: &R, board: &Board) {
         let Some(door) = self.door() else {
             return;

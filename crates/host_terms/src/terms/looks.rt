@@ -13,8 +13,8 @@ use tenant_model::MAX_JOBS;
 use term_life::{Outcome, is_used};
 
 impl<J: Naming> HostTerm<J> {
-    /// Whether nothing is left that can be done: no row is open, and each job has its outcome; or the history is full; or
-    /// all rows that are open wait to be started, and the tenant has no slot for workers.
+    /// Whether nothing is left that can be done: no row is open, and each job has its outcome; or the history is full;
+    /// or all rows that are open wait to be started, and the tenant has no slot for workers.
     pub(crate) fn is_quiet<R: Wait>(&self, rt: &R) -> bool {
         let Some(door) = self.door() else {
             return true;
@@ -39,7 +39,8 @@ impl<J: Naming> HostTerm<J> {
         }
     }
 
-    /// The reply to a request about a job, by its number here, that a look is enough for: its history has no entry of it.
+    /// The reply to a request about a job, by its number here, that a look is enough for: its history has no entry of
+    /// it.
     pub(crate) fn look_up<R: Wait>(&self, rt: &R, request: &Request) -> Option<Told>
         ensures { IfSome result (IsLooked (seen_of self.now) request.now) }
     {

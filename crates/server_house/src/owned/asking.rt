@@ -21,8 +21,8 @@ use tenant_record::Seat;
 use worker_main::{Ringer, Signal};
 
 impl<J: Naming> OwnClient<J> {
-    /// Asks the first tenant of the house. If a job is placed on a slot, the slot is attended until it is free, its history
-    /// is full, or those who wait are told to stop.
+    /// Asks the first tenant of the house. If a job is placed on a slot, the slot is attended until it is free, its
+    /// history is full, or those who wait are told to stop.
     pub fn ask<R: Wait, S: Signal>(
         self,
         rt: &R,
@@ -60,8 +60,8 @@ impl<J: Naming> OwnClient<J> {
         (client, told)
     }
 
-    /// Waits while a job of the first tenant has no outcome, and says whether to stop: those who wait were told to, or the
-    /// flag is raised.
+    /// Waits while a job of the first tenant has no outcome, and says whether to stop: those who wait were told to, or
+    /// the flag is raised.
     pub fn wait_for<R: Wait>(&self, rt: &R, job: u64, stop: &StopFlag) -> bool {
         let doors = self.house.doors.as_slice();
         let Some(seat) = self.seats.first() else {

@@ -121,8 +121,8 @@ pub struct Lodging<J: Naming> {
 }
 
 impl<J: Naming> Lodging<J> {
-    /// The house of a configuration's tenants, which have done nothing yet, for its workers and so many sessions. None if a
-    /// pass or a seat is missing.
+    /// The house of a configuration's tenants, which have done nothing yet, for its workers and so many sessions. None
+    /// if a pass or a seat is missing.
     pub fn open<R: Wait>(
         rt: &R,
         alloc: Global,

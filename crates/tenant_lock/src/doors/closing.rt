@@ -15,8 +15,8 @@ use tenant_record::{Seat, TenantCell};
 
 impl<J: Naming> TenantDoor<J> {
     /// Closes the door, to which all seats come back: the tenant's history, if it agrees with what the
-    /// holders of its tokens were told. At a fault the tenant is given up. What was seen of the tenant's life begins the
-    /// history that is given: it is compared.
+    /// holders of its tokens were told. At a fault the tenant is given up. What was seen of the tenant's life begins
+    /// the history that is given: it is compared.
     pub fn close<R: Wait>(
         self,
         rt: &R,

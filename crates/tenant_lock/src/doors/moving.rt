@@ -10,7 +10,7 @@ ghost use Rattle.tenant_lock.specs.Under.{AndCounted, AndLooked, IsAdvanceOf, Is
 ghost use Rattle.tenant_lock.specs.Sleepers.{MayLeave};
 
 use super::TenantDoor;
-use crate::held::{Held, Turned};
+use crate::held::{Held, MovedAndSeen};
 use job_step::{Segment, View};
 use std::sync::{MutexGuard, Wait};
 use std::thread::yield_now;
@@ -57,7 +57,7 @@ impl<J: Naming> TenantDoor<J> {
         me: &mut Front<J>,
         pass: Pass,
         view: &mut View,
-    ) -> Turned
+    ) -> MovedAndSeen
         requires front { IsFrontOf self.now me.old }
         requires pass { pass.tenant ≡ self.now.tenant }
         ensures front { IsFrontOf self.now me.new }
@@ -73,7 +73,7 @@ impl<J: Naming> TenantDoor<J> {
     }
 
     /// Advances the slot of a pass as `advance`, and under the same lock counts the rows on it.
-    pub fn advance_and_count<R: Wait>(&self, rt: &R, me: &mut Front<J>, pass: Pass) -> Turned
+    pub fn advance_and_count<R: Wait>(&self, rt: &R, me: &mut Front<J>, pass: Pass) -> MovedAndSeen
         requires front { IsFrontOf self.now me.old }
         requires pass { pass.tenant ≡ self.now.tenant }
         ensures front { IsFrontOf self.now me.new }
@@ -97,7 +97,7 @@ impl<J: Naming> TenantDoor<J> {
         pass: Pass,
         segment: Segment,
         view: &mut View,
-    ) -> Turned
+    ) -> MovedAndSeen
         requires front { IsFrontOf self.now me.old }
         requires pass { pass.tenant ≡ self.now.tenant }
         ensures front { IsFrontOf self.now me.new }

@@ -3,7 +3,7 @@ ghost use Rattle.std.specs.Prelude.{◌≡◌};
 
 use super::TenantDoor;
 use crate::stop_flag::StopFlag;
-use crate::waits::Waits;
+use crate::waits::WaitCounts;
 use std::sync::Wait;
 use tenant_book::Naming;
 use tenant_record::{Pass, Seat};
@@ -31,7 +31,7 @@ impl<J: Naming> TenantDoor<J> {
     }
 
     /// How many wait at the tenant's slots, and how often they were woken.
-    pub fn waits<R: Wait>(&self, rt: &R) -> Waits {
+    pub fn waits<R: Wait>(&self, rt: &R) -> WaitCounts {
         self.lock(rt).waits()
     }
 

@@ -9,7 +9,7 @@ ghost use Rattle.tenant_lock.specs.Sleepers.{MayLeave};
 ghost use Rattle.tenant_lock.specs.Under.{IsAdvanceOf, IsCommitOf, IsGivenHome, IsHandOverOf};
 ghost use Rattle.tenant_lock.specs.Watch.{IsTurn};
 
-use super::{Held, Turned};
+use super::{Held, MovedAndSeen};
 use crate::looks::by_length;
 use crate::news::Done;
 use job_language::{Answer, Moved};
@@ -89,7 +89,7 @@ impl<J: Naming> Held<J> {
         me: &mut Front<J>,
         pass: Pass,
         view: &mut View,
-    ) -> Done<Turned>
+    ) -> Done<MovedAndSeen>
         requires { me.old.life ≡ self.old.life }
         ensures front { Follows me.old me.new self.old.cell self.new.cell }
         ensures cell { IsAdvanceOf pass result.answer.advanced self.old.cell self.new.cell }
@@ -103,7 +103,7 @@ impl<J: Naming> Held<J> {
         } = self.advance(rt, me, pass);
         let height = self.look(&advanced.pass, view);
         Done {
-            answer: Turned { advanced, height },
+            answer: MovedAndSeen { advanced, height },
             news,
         }
     }
@@ -114,7 +114,7 @@ impl<J: Naming> Held<J> {
         rt: &R,
         me: &mut Front<J>,
         pass: Pass,
-    ) -> Done<Turned>
+    ) -> Done<MovedAndSeen>
         requires { me.old.life ≡ self.old.life }
         ensures front { Follows me.old me.new self.old.cell self.new.cell }
         ensures cell { IsAdvanceOf pass result.answer.advanced self.old.cell self.new.cell }
@@ -128,7 +128,7 @@ impl<J: Naming> Held<J> {
         } = self.advance(rt, me, pass);
         let height = self.rows_on(&advanced.pass);
         Done {
-            answer: Turned { advanced, height },
+            answer: MovedAndSeen { advanced, height },
             news,
         }
     }
@@ -152,7 +152,7 @@ impl<J: Naming> Held<J> {
         pass: Pass,
         segment: Segment,
         view: &mut View,
-    ) -> Done<Turned>
+    ) -> Done<MovedAndSeen>
         requires { me.old.life ≡ self.old.life }
         ensures front { Follows me.old me.new self.old.cell self.new.cell }
         ensures cell { IsCommitOf pass segment result.answer.advanced self.old.cell self.new.cell }
@@ -166,7 +166,7 @@ impl<J: Naming> Held<J> {
         } = self.commit(rt, me, pass, segment);
         let height = self.look(&advanced.pass, view);
         Done {
-            answer: Turned { advanced, height },
+            answer: MovedAndSeen { advanced, height },
             news,
         }
     }

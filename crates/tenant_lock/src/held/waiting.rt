@@ -8,7 +8,7 @@ ghost use Rattle.tenant_lock.specs.Sleepers.{CanMove, IsIdle, must_stop, with_sl
 use super::Held;
 use crate::awaited::{is_open, note};
 use crate::news::is_over;
-use crate::waits::Waits;
+use crate::waits::WaitCounts;
 use tenant_book::Naming;
 use tenant_record::{Pass, Seat};
 
@@ -59,7 +59,7 @@ impl<J: Naming> Held<J> {
     }
 
     /// How many sleep at the slots, and how often they were woken.
-    pub(crate) fn waits(&self) -> Waits
+    pub(crate) fn waits(&self) -> WaitCounts
         ensures { result.asleep ≡ count_by (λ b. b) self.now.noted }
     {
         self.waiting.waits()

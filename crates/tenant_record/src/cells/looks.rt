@@ -68,9 +68,9 @@ impl TenantCell {
     /// How many entries the history had when a slot was found idle, if the slot was not touched since.
     pub fn still(&self, slot: u8) -> Option<usize>
         requires { slot < self.now.config.slots }
-        ensures { result ≡ slice_index_or self.now.stills slot None }
+        ensures { result ≡ slice_index_or self.now.idle_since slot None }
     {
-        self.slots.stills[slot as usize]
+        self.slots.idle_since[slot as usize]
     }
 
     /// Whether a pass that is home reports a full history.

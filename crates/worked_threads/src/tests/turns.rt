@@ -18,7 +18,7 @@ use tenant_book::{Naming, OpenedRegistry, Registry};
 use tenant_lock::{StopFlag, TenantDoor};
 use tenant_record::Seat;
 use worked_jobs::{FIB_OF_SIX, job_of, tenant};
-use worker_main::DueDoor;
+use worker_main::SlotAccess;
 
 /// A thread's door, and how often it was moved by a commit and by an advance.
 struct Counted<'d, J: Naming, R: Wait> {

@@ -13,7 +13,7 @@ use std::test::Fail;
 use std::thread;
 use std::thread::{Threads, yield_now};
 use tenant_book::{Naming, OpenedRegistry, Registry};
-use tenant_lock::{TenantDoor, Waits};
+use tenant_lock::{TenantDoor, WaitCounts};
 use tenant_record::{Pass, Seat};
 
 /// How many entries are made that leave a sleeper's slot idle.
@@ -83,7 +83,7 @@ fn watch<J: Naming, R: Wait>(rt: &R, door: &TenantDoor<J>, asleep: usize, wakes:
 }
 
 /// Once somebody sleeps, makes entries that leave its slot idle: who sleeps then, and who was woken.
-fn poll_often<J: Naming, R: Wait>(rt: &R, door: &TenantDoor<J>, seat: &mut Seat) -> Waits {
+fn poll_often<J: Naming, R: Wait>(rt: &R, door: &TenantDoor<J>, seat: &mut Seat) -> WaitCounts {
     watch(rt, door, 1, 0);
     for _entry in 0..ENTRIES {
         let _polled = poll(rt, door, seat, 1);
@@ -93,7 +93,7 @@ fn poll_often<J: Naming, R: Wait>(rt: &R, door: &TenantDoor<J>, seat: &mut Seat)
 }
 
 /// What a sleeper's wait says, who slept before its task was done, and what the task was answered.
-type Slept = (bool, Waits, Option<Moved>);
+type Slept = (bool, WaitCounts, Option<Moved>);
 
 /// One worker sleeps at its slot; another thread makes entries that leave that idle, and then does its task.
 fn sleep_beside_polls<J: Naming + Send + Sync, R: Threads + Wait + Sync>(
@@ -140,8 +140,8 @@ fn entries_that_leave_a_slot_idle_wake_nobody_there_in<
 }
 
 /// Slots with a sleeper, and wakes, each of which found a slot that could move.
-fn waits(asleep: usize, wakes: u64) -> Waits {
-    Waits {
+fn waits(asleep: usize, wakes: u64) -> WaitCounts {
+    WaitCounts {
         asleep,
         wakes,
         idle_wakes: 0,
@@ -155,7 +155,7 @@ fn sleep_beside_another<J: Naming + Send + Sync, R: Threads + Wait + Sync>(
     alloc: Global,
     door: &TenantDoor<J>,
     seat: &mut Seat,
-) -> Option<([bool; 2], Waits)> {
+) -> Option<([bool; 2], WaitCounts)> {
     let (one, mut works) = pair(rt, alloc, door, seat, 1)?;
     let (two, mut last) = pair_or_none(rt, alloc, door, seat, 3);
     let (first, second) = (&one, &two);

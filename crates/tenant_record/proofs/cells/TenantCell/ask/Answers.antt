@@ -41,14 +41,14 @@ invariant_of-self c =
       askers = c.note_asker.new.askers.items;
       home =
           c.asked-due.new.self.home.items;
-      stills = c.asked-due.new.self.stills;
+      idle_since = c.asked-due.new.self.idle_since;
     } in
     let is : IsAsked old s r y c.asked-due.result.0 c.asked-due.result.1 d (asked s r y) = record {
       history = grown.history;
       tenant = refl;
       config = grown.config;
       askers = rw (← c.number.ensures) c.note_asker.ensures.items;
-      stills = told.stills;
+      idle_since = told.idle_since;
       seat = refl;
       pass = told.pass;
       due = rw (← grown.config) told.due;
@@ -58,11 +58,11 @@ invariant_of-self c =
     let reserved = valid.reserved in
     let most : i.replay.config.slots ≤ MAX_SLOTS = valid.most_slots in
     let config : (state_of old).config.reserved ≡ i.replay.config.reserved = ap (λ (k : Tenant). k.reserved) c.self.invariant.right.history.config in
-    let sixteen : length i.slots.stills ≡ 16 = search rules in
+    let sixteen : length i.slots.idle_since ≡ 16 = search rules in
     let takes = ask_taken c.has_room.result (state_of old) r y (state_of d) (well_formed i.replay.config i.replay.history valid) grown.answer grown.state in
     record {
       right = asked_right old d s (asked s r y) r y c.asked-due.result.0 c.asked-due.result.1 valid c.self.invariant.right is grown.right takes
-          (placed_low c.has_room.result (state_of old) r y (length i.slots.stills) grown.answer (omega (arith, reserved, most, config, sixteen)));
+          (placed_low c.has_room.result (state_of old) r y (length i.slots.idle_since) grown.answer (omega (arith, reserved, most, config, sixteen)));
       counts = rw (told.counts, is.history) (counts_same i.replay.history i.slots.counts (steps.Ask r) (answer.Replied y) (is_recorded_reply y) refl c.self.invariant.counts (λ o. refl));
       valid = rw grown.config valid;
       room = rw (grown.config, c.note_asker.ensures.capacity) c.self.invariant.room;
@@ -96,14 +96,14 @@ returns-clause-attended c =
       askers = c.note_asker.new.askers.items;
       home =
           c.asked-due.new.self.home.items;
-      stills = c.asked-due.new.self.stills;
+      idle_since = c.asked-due.new.self.idle_since;
     } in
     let is : IsAsked old s r y c.asked-due.result.0 c.asked-due.result.1 d (asked s r y) = record {
       history = grown.history;
       tenant = refl;
       config = grown.config;
       askers = rw (← c.number.ensures) c.note_asker.ensures.items;
-      stills = told.stills;
+      idle_since = told.idle_since;
       seat = refl;
       pass = told.pass;
       due = rw (← grown.config) told.due;

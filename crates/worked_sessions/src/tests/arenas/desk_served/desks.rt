@@ -83,7 +83,7 @@ impl Door for Desk<'_> {
 impl Doors for Desk<'_> {
     ghost finds = { λ _ _ _. Unit {0} };
 
-    ghost binds = { λ _ _ _ _. Unit {0} };
+    ghost binds = { λ _ _ _ _ _. Unit {0} };
 
     ghost asks = { λ _ _ _ _. Unit {0} };
 
@@ -97,7 +97,7 @@ impl Doors for Desk<'_> {
         }
     }
 
-    fn bind(&mut self, _tenant: usize) -> Result<(), Error> {
+    fn bind(&mut self, _tenant: usize, _name: TenantName) -> Result<(), Error> {
         self.bound = self.bound.wrapping_add(1);
         Ok(())
     }

@@ -58,8 +58,8 @@ fn a_pass_that_is_kept_is_missed_in<J: Naming + Send + Sync, R: Threads + Wait +
     Ok(())
 }
 
-/// Gives home a pass of another door of the tenant, which knows of one entry: a worker arrived at the first row there. The
-/// pass in whose place it goes home goes to that door.
+/// Gives home a pass of another door of the tenant, which knows of one entry: a worker arrived at the first row there.
+/// The pass in whose place it goes home goes to that door.
 fn swap<J: Naming, R: Wait>(
     rt: &R,
     alloc: Global,

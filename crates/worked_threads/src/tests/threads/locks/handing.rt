@@ -52,8 +52,8 @@ fn nothing_is_found_while_the_pass_is_out_in<
     Ok(())
 }
 
-/// Submits the job twice, and lets a worker hand its slot over once the first is run: the slots that are due after each ask
-/// and each handing over, the last of which is of a slot where nothing waits.
+/// Submits the job twice, and lets a worker hand its slot over once the first is run: the slots that are due after each
+/// ask and each handing over, the last of which is of a slot where nothing waits.
 fn hand_over_twice<J: Naming, R: Wait>(
     rt: &R,
     alloc: Global,

@@ -138,8 +138,8 @@ fn all_waits_for_a_job_end_with_its_outcome_in<
     Ok(())
 }
 
-/// Waits for the job, which nobody runs, by one seat in a thread, while another thread fills the history by a poll of the
-/// other: what the wait says.
+/// Waits for the job, which nobody runs, by one seat in a thread, while another thread fills the history by a poll of
+/// the other: what the wait says.
 fn wait_beside_a_poll<J: Naming + Send + Sync, R: Threads + Wait + Sync>(
     rt: &R,
     door: &TenantDoor<J>,

@@ -10,7 +10,7 @@ use market_config::{Call, MarketConfig, MarketTenant};
 use std::alloc::{AllocError, Global};
 use std::sync::Wait;
 use std::test::*;
-use worker_main::{Bell, CallDoors, DueDoor, NoGate, Visiting, worker};
+use worker_main::{Bell, NoGate, SlotAccess, Visiting, WorkerAccess, worker};
 
 /// One of the two tenants.
 #[derive(Clone, Copy, Debug, PartialEq, Eq)]
@@ -103,7 +103,7 @@ impl<'t, R: Wait> Pair<'t, R> {
     }
 }
 
-impl<R: Wait> DueDoor for Pair<'_, R> {
+impl<R: Wait> SlotAccess for Pair<'_, R> {
     ghost use Rattle.std.specs.Prelude.{option_map, if◌then◌else◌};
 
     ghost tenants = { λ _. 2 };
@@ -175,7 +175,7 @@ impl<R: Wait> DueDoor for Pair<'_, R> {
     }
 }
 
-impl<R: Wait> CallDoors for Pair<'_, R> {
+impl<R: Wait> WorkerAccess for Pair<'_, R> {
     ghost arrives = { λ _ _ _ _ _. Unit {0} };
 
     fn arrive(&mut self, call: Call) -> (Came, Option<Call>) {

@@ -9,7 +9,7 @@ use std::alloc::{AllocError, Global};
 use std::cell::Cell;
 use std::sync::Wait;
 use std::test::Fail;
-use worker_main::{Bell, CallDoors, DueDoor};
+use worker_main::{Bell, SlotAccess, WorkerAccess};
 
 /// How high the slot is before a turn, what the turn is answered, and which slot it makes due.
 pub(super) type Row = (usize, Moved, Option<u8>);
@@ -131,7 +131,7 @@ pub(super) fn one_tenant(alloc: Global) -> Result<MarketConfig, AllocError>
     Ok(MarketConfig::new(vec![in alloc; tenant]?))
 }
 
-impl<R: Wait> DueDoor for Tour<'_, R> {
+impl<R: Wait> SlotAccess for Tour<'_, R> {
     ghost use Rattle.std.specs.Prelude.{option_map};
 
     ghost tenants = { λ _. 1 };
@@ -196,7 +196,7 @@ impl<R: Wait> DueDoor for Tour<'_, R> {
     }
 }
 
-impl<R: Wait> CallDoors for Tour<'_, R> {
+impl<R: Wait> WorkerAccess for Tour<'_, R> {
     ghost arrives = { λ _ _ _ _ _. Unit {0} };
 
     fn arrive(&mut self, call: Call) -> (Came, Option<Call>) {

@@ -38,7 +38,7 @@ impl Progress {
 
 /// What the threads of a host share.
 #[derive_where(Clone, Copy)]
-pub(crate) struct Site<'h, J: Naming> {
+pub(crate) struct HostContext<'h, J: Naming> {
     pub(crate) host: &'h Host<J>,
     pub(crate) desks: &'h [Desk<J>],
     pub(crate) places: &'h [Place],
@@ -50,7 +50,7 @@ pub(crate) struct Site<'h, J: Naming> {
     pub(crate) connections: u8,
 }
 
-impl<'h, J: Naming> Site<'h, J> {
+impl<'h, J: Naming> HostContext<'h, J> {
     /// Reports an event.
     pub(crate) fn say<R: Wait + Clock>(&self, rt: &R, alloc: Global, event: Event<'_>) {
         self.outlet.say(rt, alloc, event);

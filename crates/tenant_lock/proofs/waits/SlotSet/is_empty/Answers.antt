@@ -1,6 +1,6 @@
 use Rattle.std.specs.Cmp.{booleans_Decides}
 use Rattle.std.proofs.lemmas.Slice.Eq.{slice_eq-Decides}
-use Rattle.tenant_lock.proofs.waits.Slots.is_empty.Goals as goal
+use Rattle.tenant_lock.proofs.waits.SlotSet.is_empty.Goals as goal
 
 pub returns : goal.returns
 returns c = (slice_eq-Decides booleans_Decides _ _ _ c.eq.ensures).0
