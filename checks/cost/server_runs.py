@@ -23,8 +23,8 @@ BATCH = 50
 # A step of a slot, as a session's thread takes it: a job's first one looks at the topmost row under the lock, makes the
 # private run outside of it, and commits that under the lock, where it is recorded. The others, since nobody else is out,
 # are advances under the lock.
-STEP = ("server_doors::slots::HeldSlotDueDoor::view*", "job_step::segments::segment_of",
-        "server_doors::slots::HeldSlotDueDoor::commit*", "server_doors::slots::HeldSlotDueDoor::advance*")
+STEP = ("server_doors::slots::HeldSlotSlotAccess::view*", "job_step::segments::segment_of",
+        "server_doors::slots::HeldSlotSlotAccess::commit*", "server_doors::slots::HeldSlotSlotAccess::advance*")
 
 
 @dataclass(frozen=True)

@@ -15,7 +15,7 @@ from layout import PROGRAMS
 from unproved import CRATES
 
 # How long, in seconds, a command may take that is to end by itself.
-PATIENCE = 60
+PATIENCE = 300
 # Variables of the Makefile and of packing, which a caller may have set for another purpose.
 OUR_WORDS = ("DESTDIR", "PREFIX", "SYSCONFDIR", "PYTHON", "PROGRAMS", "SOURCE_DATE_EPOCH", "MFLAGS", "PYTHONDONTWRITEBYTECODE")
 

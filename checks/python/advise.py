@@ -61,25 +61,25 @@ def fewer_workers_than_worker_slots(it):
 
 
 def more_history_than_memory(it):
-    """A tenant's history has room for `steps` times 128 bytes, 16 for each slot and 120 for each connection."""
-    assert bytes_of(tenant(slots=2, steps=1000), 3) == 1000 * (128 + 2 * 16 + 3 * 120)
+    """A tenant's history has room for `steps` times 104 bytes, 16 for each slot and 96 for each connection."""
+    assert bytes_of(tenant(slots=2, steps=1000), 3) == 1000 * (104 + 2 * 16 + 3 * 96)
     largest = [tenant(f"t-{it}", slots=16, reserved=8, steps=1_048_576) for it in range(64)]
-    assert round(sum(bytes_of(it, 64) for it in largest) / 1e9) == 541  # "some 540 GB" (docs/OPERATIONS.md)
-    need = 2 * 10_000 * (128 + 2 * 16 + 64 * 120)
+    assert round(sum(bytes_of(it, 64) for it in largest) / 1e9) == 436  # "some 440 GB" (docs/OPERATIONS.md)
+    need = 2 * 10_000 * (104 + 2 * 16 + 64 * 96)
     assert found(WISE, memory=need) == [] and found(WISE, memory=need - 1) == [(About.MEMORY, None)]
     assert found(WISE, memory=2 * need, rotate_at=50) == []
     assert found(WISE, memory=2 * need - 1, rotate_at=50) == [(About.MEMORY, None)]
     assert found(WISE, memory=need // 2, connections=1) == [] and found(WISE, memory=None) == []
-    # 2**20 steps of 128 + 16 + 120 bytes, and 2**12: 265 MiB.
+    # 2**20 steps of 104 + 16 + 96 bytes, and 2**12: 217 MiB.
     path = it.file("large.json", {"tenants": [tenant(slots=1, reserved=0, steps=2**20),
                                               tenant("beta", slots=1, reserved=0, steps=2**12)], "workers": 2})
     it.call("advise", path, "--memory", "0.125", "--connections", "1", status=1, out=f"{path}: all tenants: with 1 "
-            "connection histories have room for 0.26 GiB, and keep programs besides; the machine has 0.12 GiB; acme's has "
-            "the most, 0.26 GiB for 1,048,576 steps; lower steps, to 254,200 at most for each tenant, or --connections\n")
+            "connection histories have room for 0.21 GiB, and keep programs besides; the machine has 0.12 GiB; acme's has "
+            "the most, 0.21 GiB for 1,048,576 steps; lower steps, to 310,689 at most for each tenant, or --connections\n")
     it.call("advise", path, "--memory", "0.375", "--connections", "1", out=f"{path}: nothing to advise\n")
     it.call("advise", path, "--memory", "0.375", "--connections", "1", "--host", status=1, out=re.compile(
-        ".*: with 1 connection histories have room for 0.52 GiB, 2 times, since a tenant has two terms while the host "
-        "rotates, .* 0.52 GiB for 1,048,576 steps; lower steps, to 381,300 at most for each tenant, or --connections\n"))
+        ".*: with 1 connection histories have room for 0.42 GiB, 2 times, since a tenant has two terms while the host "
+        "rotates, .* 0.42 GiB for 1,048,576 steps; lower steps, to 466,033 at most for each tenant, or --connections\n"))
     it.call("advise", path, "--memory", "1e-7", status=1, out=re.compile(".*; lower --connections, or have fewer tenants\n"))
 
 

@@ -44,7 +44,7 @@ PROMISES = [
     ("a tenant's lock, and how it is closed", ["tenant_lock::TenantDoor"]),
     ("threads at the slots of locked tenants", ["server_doors::HeldSlot"]),
     ("sessions at locked tenants", ["server_doors::SessionDoors", "session_core::Doors", "session_core::serve"]),
-    ("workers, over any doors", ["worker_main::CallDoors", "worker_main::worker"]),
+    ("workers, over any doors", ["worker_main::WorkerAccess", "worker_main::worker"]),
     ("queues that threads share", ["call_queues::CallQueues"]),
     ("the market's lists", ["market::MarketState"]),
     ("the words of the server", ["program_words::read_server_words"]),

@@ -3,6 +3,7 @@ import json
 import pathlib
 import re
 import subprocess
+import sys
 from collections.abc import Sequence
 from typing import NamedTuple
 
@@ -27,6 +28,7 @@ def build() -> None:
         built = PROGRAM.stat().st_mtime
         if all(it.stat().st_mtime <= built for it in ROOT.glob("crates/*/src/**/*.rt")):
             return
+    print(f"{PROGRAM.relative_to(ROOT)} is not there, or older than a source: `make build` proves and builds it", file=sys.stderr)
     subprocess.run(["make", "-s", "build"], cwd=ROOT, check=True)
 
 

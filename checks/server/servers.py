@@ -30,7 +30,7 @@ FIB = {"args": [6, 0], "fuel": 1000, "procs": [[
 SEVEN = {"args": [7, 0], "fuel": 10, "procs": [[["ret", 0]]]}
 JUMPS_AWAY = {"args": [0, 0], "fuel": 1000, "procs": [[["jmp", 1]]]}
 # Memory for a tenant and the stacks of some threads, but not of 32.
-FEW_STACKS = 48 << 20
+FEW_STACKS = 45 << 20
 HELLO = {"op": "hello", "tenant": "acme"}
 
 
