@@ -8,6 +8,8 @@ ARITHMETIC = ("+", "-", "*", *DIVISIONS, *BITS)
 COMPARISONS = ("==", "!=", "<", "<=", ">", ">=")
 NUMBERS = ("0x1f", "0xFf_00", "1_000", "63", "0x7fff_ffff_ffff_ffff", "0x8000_0000_0000_0000", "18446744073709551615", "-9223372036854775808")
 MOST_DEPTH = 3
+MOST_PARALLEL = 4
+"""How many parallel loops a source has at most: each is a function, and a job has 16."""
 MOST_PENDING = 3
 """How many tasks a function may have that were not waited for."""
 
@@ -47,11 +49,14 @@ class Sources:
     cells: list[str] = field(default_factory=list)
     inlines: list[Inline] = field(default_factory=list)
     may_divide: bool = True
+    parallel_loops: int = 0
+    in_parallel: bool = False
+    """How many parallel loops there are so far, and whether the body of one is drawn."""
 
     def source(self) -> str:
         """A source with a main of two parameters, behind constants, cells and inline functions, and functions below it. Each calls
         only later ones, and only main uses cells, so no schedule decides what they give."""
-        self.constants, self.inlines = [], []
+        self.constants, self.inlines, self.parallel_loops = [], [], 0
         items = "".join(self.constant() for _ in range(self.draws.choice((0, 0, 1, 2)))) + self.items_of_cells()
         items += "".join(self.inline() for _ in range(self.draws.choice((0, 0, 1, 2, 3))))
         below = [Called(f"f{number}", self.draws.randint(0, 2)) for number in range(self.draws.choice((0, 1, 1, 2)))]
@@ -109,7 +114,8 @@ class Sources:
         self.groups, self.outer_groups = [], outer_groups + groups
         lines = [self.statement(indent, depth, in_loop) for _ in range(self.draws.randint(1, 3))]
         if indent > 1 and self.draws.random() < 0.25:
-            leaving = [f"return {self.returned(1)}", *(f"return wait {it}" for it in self.groups), *(["break", "continue"] if in_loop else [])]
+            word = "give" if self.in_parallel else "return"
+            leaving = [f"{word} {self.returned(1)}", *(f"{word} wait {it}" for it in self.groups), *(["break", "continue"] if in_loop else [])]
             lines.append("    " * indent + self.draws.choice(leaving) + "\n")
         elif indent > 1:
             lines += [f"{'    ' * indent}wait {it}\n" for it in self.pending + self.groups]
@@ -161,7 +167,26 @@ class Sources:
             return self.call()
         if self.cells and self.draws.random() < 0.3:
             return f"{self.draws.choice(self.cells)}.{self.draws.choice(('local', 'sum', 'count'))}"
+        if not self.in_parallel and self.parallel_loops < MOST_PARALLEL and self.draws.random() < 0.05:
+            return self.parallel()
         return "cancelled()" if self.draws.random() < 0.03 else ""
+
+    def parallel(self) -> str:
+        """A parallel loop over a few numbers. Its body sees no variable of the function around it, and uses no cell: whose task it is
+        is up to the schedule."""
+        kept = {name: getattr(self, name) for name in ("names", "pending", "groups", "outer_groups", "further_out", "cells")}
+        self.count, self.parallel_loops, self.in_parallel = self.count + 2, self.parallel_loops + 1, True
+        index, copy = f"i{self.count - 1}", f"v{self.count}"
+        ends = f"{self.draws.randint(-2, 2)}..{self.draws.choice([str(self.draws.randint(-1, 6)), *(f'{it} % 7' for it in self.names[:1])])}"
+        head = f"{self.draws.choice(('psum', 'pmin', 'pmax'))} {index} in {ends}{self.draws.choice(('', ' grain 1', ' grain 2'))}"
+        self.names, self.pending, self.groups, self.outer_groups, self.further_out, self.cells = [copy], [], [], [], 0, []
+        lines = "".join(self.statement(1, 1, in_loop=False) for _ in range(self.draws.randint(1, 3)))
+        waits = "".join(f"    wait {it}\n" for it in self.pending + self.groups)
+        last = waits if self.draws.random() < 0.2 else f"    give {self.returned(1)}\n"
+        self.in_parallel = False
+        for name, value in kept.items():
+            setattr(self, name, value)
+        return f"{head} {{\n    let {copy} = {index}\n{lines}{last}}}"
 
     def task(self, room: str) -> str:
         """A task, which is not waited for yet."""

@@ -1,7 +1,7 @@
 #!/usr/bin/env python3
 """Compares arena-compile with the compiler in Python, and both with the interpreter of checks/python, which was written from
-docs/LANGUAGE.md alone, on drawn sources, and on some with numbers, bits, loops that count, constants, calls, tasks, groups, cells
-and inline functions, at their edges: what both make is rehearsed on drawn schedules, and what `arena-compile --serial` prints must
+docs/LANGUAGE.md alone, on drawn sources, and on some with numbers, bits, loops that count, constants, calls, tasks, groups, cells,
+inline functions and parallel loops, at their edges: what both make is rehearsed on drawn schedules, and what `arena-compile --serial` prints must
 be the line of the interpreter's value. Of the examples in examples/jobs those that it takes must give what they say. Sources with
 faults must be refused at the first one. The last line says how many.
 
@@ -32,6 +32,7 @@ from arena.replies import Complete, Fault, FaultCode  # noqa: E402
 from arena.trace.rehearsal import rehearse  # noqa: E402
 from group_sources import GROUPS  # noqa: E402
 from inline_sources import INLINES  # noqa: E402
+from parallel_sources import PARALLEL  # noqa: E402
 from reference import TooLong, interpreted  # noqa: E402
 from refused_places import REFUSED  # noqa: E402
 from sharing_sources import SHARING  # noqa: E402
@@ -65,8 +66,11 @@ REPLIES = (
 )
 """Sources, the words for arena-compile, its status, its output, and standard error up to a colon and a space."""
 
-TAKEN = {"fib.job", "hash.job", "posted.job", "queens.job", "serial.job"}
+TAKEN = {"fib.job", "hash.job", "posted.job", "primes.job", "queens.job", "serial.job", "sum.job"}
 """The examples that arena-compile takes."""
+
+HEAD = re.compile(r"^fn |\bp(?:sum|min|max) ")
+"""Where a function begins that becomes a procedure."""
 
 CANCELS = re.compile(r"\bcancel \w+;?")
 """Statements that the interpreter leaves out: what the sources cancel decides none of their values."""
@@ -127,8 +131,8 @@ def difference(program: str, source: str, arguments: tuple[int, int], draws: ran
         seen["too long"] += 1
         return ""
     status, output, said = compiled(program, source, *arguments)
-    heads = [number for number, line in enumerate(source.splitlines(), 1) if line.startswith("fn ")]
-    limit = next((kind for head in heads for words, kind in LIMITS.items() if status == 1 and said == f"{head}:1: {words}\n"), "")
+    heads = [f"{number}:{it.start() + 1}" for number, line in enumerate(source.splitlines(), 1) for it in HEAD.finditer(line)]
+    limit = next((kind for head in heads for words, kind in LIMITS.items() if status == 1 and said == f"{head}: {words}\n"), "")
     if status == 1 and "inline fn" in source and said.endswith(TOO_LONG):
         limit = "operators"
     if limit:
@@ -196,7 +200,7 @@ def main(seed: int = 1, programs: int = 400) -> list[str]:
         source, arguments = sources.source(), (draws.randint(-5, 9), draws.randint(-5, 9))
         said = difference(program, source, arguments, draws, seen)
         found += [said] if said else []
-    found += [said for source, arguments in (*BITS, *COUNTING, *CALLING, *WAITING, *GROUPS, *INLINES) if (said := difference(program, source, arguments, draws, Counter()))]
+    found += [said for source, arguments in (*BITS, *COUNTING, *CALLING, *WAITING, *GROUPS, *INLINES, *PARALLEL) if (said := difference(program, source, arguments, draws, Counter()))]
     found += [said for source, arguments, cells in SHARING if (said := difference(program, source, arguments, draws, Counter(), cells))]
     found += example_differences(program, draws)
     found += [said for source, place in REFUSED if (said := refused_difference(program, source, place))]
@@ -208,7 +212,7 @@ def main(seed: int = 1, programs: int = 400) -> list[str]:
         print(f"too few programs are {', '.join(rare)}")
     shown = ", ".join(f"{count} {kind}" for kind, count in sorted(seen.items()))
     print(f"{programs} sources by two compilers ({shown}), {len(BITS)} with bits, {len(COUNTING)} that count, {len(CALLING)} that call, "
-          f"{len(WAITING)} that wait, {len(GROUPS)} with groups, {len(INLINES)} with inline functions, {len(SHARING)} that share, {len(TAKEN)} of the examples, {len(REFUSED)} refused: {len(found)} differences")
+          f"{len(WAITING)} that wait, {len(GROUPS)} with groups, {len(INLINES)} with inline functions, {len(PARALLEL)} with parallel loops, {len(SHARING)} that share, {len(TAKEN)} of the examples, {len(REFUSED)} refused: {len(found)} differences")
     return found or rare
 
 

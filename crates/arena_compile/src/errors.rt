@@ -62,6 +62,7 @@ fn words_of(wrong: Wrong) -> &'static str {
             "only variables and cells are assigned to, and not the index of a `for`",
         Wrong::NoConstant => "the value of a constant is made of numbers and of constants above it",
         Wrong::NoStep => "the step of a `for` is a constant that is not 0",
+        Wrong::NoGrain => "the grain of a parallel loop is a constant from 1",
         Wrong::LateItem => "constants and cells stand first, then inline functions, then others",
         Wrong::TooManyItems => "at most 100 of these are taken",
         Wrong::WrongKey => "the key of a cell is a number from 0 to 7",
@@ -74,6 +75,8 @@ fn words_of(wrong: Wrong) -> &'static str {
         Wrong::TooLong => "what begins here is too long, or nested too deep",
         Wrong::NeverReached => "this is never reached: leave it out",
         Wrong::NoLoop => "there is no loop around this",
+        Wrong::NotGathered => "`give` belongs into the body of a parallel loop: write `return`",
+        Wrong::GatheringReturn => "the body of a parallel loop ends by `give`, not by `return`",
         Wrong::KnownFunction =>
             "a function of this name is there already, or `main` is not the first one",
         Wrong::UnknownFunction => "no function of this name is there",
@@ -90,7 +93,7 @@ fn words_of(wrong: Wrong) -> &'static str {
             "a task or a group of this block is not waited for before the block ends",
         Wrong::NoGroup =>
             "no group is left: wait for a task before, since 3 at most may be there that were not waited for",
-        Wrong::TooManyFunctions => "a job has at most 16 functions",
+        Wrong::TooManyFunctions => "a job has at most 16 functions, and each parallel loop is one",
         Wrong::NoFunction => "there is no fn: write `fn main(x, y) { .. }`",
     }
 }

@@ -31,6 +31,7 @@ abbrev pub callee_titled : Title → Scope → List Token → Result Callee Faul
 callee_titled title.Missing names ts = unexpected ts
 callee_titled title.Main names ts = found (callee_in title.Main (functions_in names) 0) ts
 callee_titled (title.Name x) names ts = found (callee_in (title.Name x) (functions_in names) 0) ts
+callee_titled (title.Gathering n) names ts = found (callee_in (title.Gathering n) (functions_in names) 0) ts
 
 -- the function whose name is at the front
 abbrev pub callee_at : Scope → List Token → Result Callee Fault

@@ -16,6 +16,7 @@ use Rattle.source_reader.specs.Cells.{question_of}
 use Rattle.source_reader.specs.Faults.{◌>>=◌}
 use Rattle.source_reader.specs.Names.{Scope, meaning_of}
 use Rattle.source_reader.specs.Groups.{own_group_at}
+use Rattle.source_reader.specs.Ranges.{parallel_at}
 use Rattle.source_reader.specs.Tasks.{group_number}
 use Rattle.source_reader.specs.Trees.{StmtTree, ReadTree, WaitTree}
 use Rattle.source_reader.specs.Marks.{after_open, after_close}
@@ -38,6 +39,7 @@ giver_of kind.Call names rest = Some giver.Call
 giver_of kind.Isolate names rest = Some giver.Isolate
 giver_of kind.Cancelled names rest = Some giver.Cancelled
 giver_of kind.Wait names rest = option_map giver.Wait (own_group_at names rest)
+giver_of (kind.Gathers g) names rest = Some giver.Gathering
 giver_of (kind.Name x) names rest = named_giver (meaning_of x names) rest
 giver_of k names rest = None
 
@@ -59,4 +61,5 @@ given_by giver.Call names x ts = run_at names (run.Call (Some x)) (drop 1 ts)
 given_by giver.Isolate names x ts = run_at names (run.Isolate x) (drop 1 ts)
 given_by giver.Cancelled names x ts = cancelled_at x (drop 1 ts)
 given_by (giver.Wait g) names x ts = Ok (WaitTree (Some x) None (group_number g), drop 1 (drop 1 ts))
+given_by giver.Gathering names x ts = parallel_at names x (drop 1 ts)
 given_by (giver.Cell q) names x ts = Ok (ReadTree x q, drop 1 (drop 1 ts))

@@ -1,5 +1,6 @@
 -- The functions that tokens declare, in order.
-use Rattle.std.specs.Prelude.{ℕ, ◌==◌, ◌&&◌, not, Bool, true, false, List, [], ◌∷◌, drop, Option, Some, None, if◌then◌else◌}
+use Rattle.std.specs.Prelude.{ℕ, ◌==◌, ◌&&◌, not, Bool, true, false, List, [], ◌∷◌, ◌++◌, drop, length, Option, Some, None, is_some, if◌then◌else◌}
+use Rattle.source_tokens.specs.declared.tokens.Gathers.{Gathers}
 use Rattle.source_tokens.specs.declared.tokens.Kind.{Kind}
 use Rattle.source_tokens.specs.declared.tokens.Kind.TheVariants as kind
 use Rattle.source_tokens.specs.declared.tokens.Token.{Token}
@@ -43,12 +44,23 @@ abbrev pub headers_behind : (behind_inline : Bool) → List Token → List Heade
 headers_behind b [] = []
 headers_behind b (t ∷ ts) = if begins b t.kind then header_of ts ∷ headers_behind (is_inline t.kind) ts else headers_behind (is_inline t.kind) ts
 
+abbrev pub gathers_of : Kind → Option Gathers
+gathers_of (kind.Gathers g) = Some g
+gathers_of k = None
+
+-- the functions of parallel loops: each is known by how many tokens are behind its word, and has both ends as parameters
+abbrev pub gathering_headers : List Token → List Header
+gathering_headers [] = []
+gathering_headers (t ∷ ts) = if is_some (gathers_of t.kind) then record { title = title.Gathering (length ts); parameters = 2 } ∷ gathering_headers ts else gathering_headers ts
+
+-- first those of the source, and then those of parallel loops
 abbrev pub headers_of : List Token → List Header
-headers_of ts = headers_behind false ts
+headers_of ts = headers_behind false ts ++ gathering_headers ts
 
 abbrev pub is_same : Title → Title → Bool
 is_same title.Main title.Main = true
 is_same (title.Name x) (title.Name y) = x == y
+is_same (title.Gathering n) (title.Gathering m) = n == m
 is_same s t = false
 
 -- the first function of that title, if the first of all has that number

@@ -7,7 +7,8 @@ use Rattle.source_reader.specs.declared.faults.Fault.{Fault}
 use Rattle.source_reader.specs.declared.faults.Wrong.TheVariants as wrong
 use Rattle.source_reader.specs.declared.names.Meaning.{Meaning}
 use Rattle.source_reader.specs.declared.names.Meaning.TheVariants as meaning
-use Rattle.source_reader.specs.declared.items.TheConstants.{INLINES, FUNCTIONS}
+use Rattle.source_reader.specs.declared.items.TheConstants.{INLINES}
+use Rattle.source_reader.specs.declared.functions.TheConstants.{FUNCTIONS}
 use Rattle.source_reader.specs.Faults.{◌>>=◌, fault_at}
 use Rattle.source_reader.specs.Trees.{FunctionTree}
 use Rattle.source_reader.specs.Constants.{constant_in}
@@ -18,6 +19,7 @@ use Rattle.source_reader.specs.Values.{whole_value}
 use Rattle.source_reader.specs.Lines.{after_set, after_line_ends, item_ended, free_name}
 use Rattle.source_reader.specs.Parameters.{inline_at}
 use Rattle.source_reader.specs.Functions.{functions_from}
+use Rattle.source_reader.specs.Gathering.{gatherings_from}
 
 -- behind `const` or `param`: the name, its value, and the tokens after it
 abbrev pub constant_at : Scope → List Token → Result (ℕ × ℤ × List Token) Fault
@@ -78,9 +80,9 @@ one_inline next names ts = do
   rest ← item_ended f.2
   next (WithInline f.0 f.1 names) rest
 
--- Functions stand below all inline functions.
+-- Functions stand below all inline functions, and those of parallel loops come behind them.
 abbrev pub inline_or_fn : ItemReader → ItemReader
-inline_or_fn inline names ts = if is_inline ts then inline names ts else functions_from FUNCTIONS names [] [] ts
+inline_or_fn inline names ts = if is_inline ts then inline names ts else (functions_from FUNCTIONS names [] [] ts >>= λ fs. gatherings_from names fs ts)
 
 -- so many inline functions at most, and the functions below them
 unfoldable pub inlines_from : ℕ → ItemReader

@@ -1,7 +1,9 @@
 -- What a place sees: names with their meanings, the last one first, and the functions of the source.
 use Rattle.std.specs.Prelude.{ℕ, Bool, true, false, List, Option, Some, None, Result, Ok, Err, ◌+◌, ◌==◌, nat_lt, if◌then◌else◌}
 use Rattle.std.specs.Option.{option_map}
+use Rattle.source_tokens.specs.declared.tokens.Gathers.{Gathers}
 use Rattle.source_tokens.specs.declared.tokens.Token.{Token}
+use Rattle.source_reader.specs.declared.halving.TheConstants.{OTHER}
 use Rattle.source_reader.specs.declared.faults.Fault.{Fault}
 use Rattle.source_reader.specs.declared.faults.Wrong.TheVariants as wrong
 use Rattle.source_reader.specs.Faults.{fault_at}
@@ -15,13 +17,14 @@ use Rattle.source_reader.specs.declared.names.Names.TheVariants as names
 use Rattle.source_reader.specs.declared.headers.Header.{Header}
 use Rattle.source_reader.specs.Trees.{InlineTree, inline_tree_of}
 
--- `Waited` stands behind a wait for the task of a group, and `Inner` is the beginning of a block inside the function's own.
+-- `Waited` stands behind a wait for the task of a group, `Inner` is the beginning of a block inside the function's own, and `Gathering` that of the body of a parallel loop, which is its function's own.
 pub data Scope : Type 0 where
   Functions : List Header → Scope
   WithName : ℕ → Meaning → Scope → Scope
   WithInline : ℕ → InlineTree → Scope → Scope
   Waited : TaskGroup → Scope → Scope
   Inner : (is_loop : Bool) → Scope → Scope
+  Gathering : Gathers → Scope → Scope
 
 abbrev pub names_of : Names → Scope
 names_of (names.Functions hs) = Functions hs.now
@@ -29,6 +32,7 @@ names_of (names.Name' x m p others) = WithName x m (names_of others)
 names_of (names.Inline' x f p others) = WithInline x (inline_tree_of f.now) (names_of others)
 names_of (names.Waited' g p others) = Waited g (names_of others)
 names_of (names.Inner' is_loop p others) = Inner is_loop (names_of others)
+names_of (names.Gathering' g p others) = Gathering g (names_of others)
 
 abbrev pub is_same_group : TaskGroup → TaskGroup → Bool
 is_same_group task_group.First task_group.First = true
@@ -56,6 +60,7 @@ meaning_of x (WithName y m others) = if y == x then Some m else meaning_of x oth
 meaning_of x (WithInline y f others) = if y == x then Some meaning.Inline else meaning_of x others
 meaning_of x (Waited g others) = option_map (awaited g) (meaning_of x others)
 meaning_of x (Inner is_loop others) = option_map outer (meaning_of x others)
+meaning_of x (Gathering g others) = meaning_of x others
 
 -- the inline function of that name
 abbrev pub inline_of : ℕ → Scope → Option InlineTree
@@ -64,6 +69,7 @@ inline_of x (WithName y m others) = inline_of x others
 inline_of x (WithInline y f others) = if y == x then Some f else inline_of x others
 inline_of x (Waited g others) = inline_of x others
 inline_of x (Inner is_loop others) = inline_of x others
+inline_of x (Gathering g others) = inline_of x others
 
 -- the functions of the source, in its order
 abbrev pub functions_in : Scope → List Header
@@ -72,6 +78,7 @@ functions_in (WithName x m others) = functions_in others
 functions_in (WithInline x f others) = functions_in others
 functions_in (Waited g others) = functions_in others
 functions_in (Inner is_loop others) = functions_in others
+functions_in (Gathering g others) = functions_in others
 
 abbrev pub number_after : ℕ → ℕ
 number_after x = if nat_lt x 255 then x + 1 else 255
@@ -96,10 +103,11 @@ number_next (meaning.OuterTask t) ts = number_past t ts
 number_next (meaning.Cell k) ts = Ok 0
 number_next meaning.Inline ts = Ok 0
 
--- the number of one more variable
+-- The number of one more variable. The function of a parallel loop has three before its body.
 abbrev pub new_number : Scope → List Token → Result ℕ Fault
 new_number (Functions hs) ts = Ok 0
 new_number (WithName x m others) ts = number_next m ts
 new_number (WithInline x f others) ts = Ok 0
 new_number (Waited g others) ts = new_number others ts
 new_number (Inner is_loop others) ts = new_number others ts
+new_number (Gathering g others) ts = Ok OTHER

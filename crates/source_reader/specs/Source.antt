@@ -1,5 +1,5 @@
 -- What a text says.
-use Rattle.std.specs.Prelude.{◌≡◌, ◌==◌, ◌-◌, ℕ, Bool, false, List, [], ◌∷◌, length, map, Result, Ok, Err, if◌then◌else◌}
+use Rattle.std.specs.Prelude.{◌≡◌, ◌==◌, ◌-◌, ℕ, Bool, false, List, [], ◌∷◌, length, map, is_some, Result, Ok, Err, if◌then◌else◌}
 use Rattle.std.specs.Global.{Vec}
 use Rattle.source_language.specs.declared.syntax.Function.{Function}
 use Rattle.source_tokens.specs.declared.tokens.Token.{Token}
@@ -14,7 +14,7 @@ use Rattle.source_reader.specs.Faults.{◌>>=◌, fault_at}
 use Rattle.source_reader.specs.declared.items.TheConstants.{ITEMS}
 use Rattle.source_reader.specs.Trees.{FunctionTree, function_tree_of}
 use Rattle.source_reader.specs.Names.{Functions}
-use Rattle.source_reader.specs.Headers.{begins, is_inline, headers_of}
+use Rattle.source_reader.specs.Headers.{begins, is_inline, gathers_of, headers_of}
 use Rattle.source_reader.specs.Items.{items_from}
 use Rattle.source_reader.specs.Places.{place_of, place_left}
 
@@ -41,12 +41,19 @@ abbrev pub GivesSource : List ℕ → Result (Vec Function) SourceError → Type
 GivesSource text (Ok v) = Says text (map function_tree_of v.items)
 GivesSource text (Err e) = GivesError text e
 
--- where the function of that number begins, or else the end
-abbrev pub nth_fn : (behind_inline : Bool) → List Token → (number end : ℕ) → ℕ
-nth_fn b [] n end = end
-nth_fn b (t ∷ ts) n end =
-    if begins b t.kind then (if n == 0 then t.at else nth_fn (is_inline t.kind) ts (n - 1) end)
-    else nth_fn (is_inline t.kind) ts n end
+-- where the parallel loop of that number begins, or else the end
+abbrev pub nth_gathering : List Token → (number end : ℕ) → ℕ
+nth_gathering [] n end = end
+nth_gathering (t ∷ ts) n end =
+    if is_some (gathers_of t.kind) then (if n == 0 then t.at else nth_gathering ts (n - 1) end)
+    else nth_gathering ts n end
+
+-- where the function of that number begins: behind those of the source come those of all parallel loops
+abbrev pub nth_fn : (behind_inline : Bool) → (tokens all : List Token) → (number end : ℕ) → ℕ
+nth_fn b [] all n end = nth_gathering all n end
+nth_fn b (t ∷ ts) all n end =
+    if begins b t.kind then (if n == 0 then t.at else nth_fn (is_inline t.kind) ts all (n - 1) end)
+    else nth_fn (is_inline t.kind) ts all n end
 
 abbrev pub function_place : List ℕ → (number : ℕ) → Place
-function_place text n = place_of text (nth_fn false (tokens_of text) n (length text))
+function_place text n = place_of text (nth_fn false (tokens_of text) (tokens_of text) n (length text))

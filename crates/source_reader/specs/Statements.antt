@@ -1,15 +1,12 @@
 -- Statements and blocks.
-use Rattle.std.specs.Prelude.{ℕ, zero, suc, ℤ, pos, int_lt, Bool, true, false, List, [], ◌∷◌, drop, Option, Some, None, Result, Ok, Err, if◌then◌else◌}
-use Rattle.std.specs.Ordering.{int_eq}
-use Rattle.source_language.specs.declared.syntax.Operator.TheVariants as op
+use Rattle.std.specs.Prelude.{ℕ, zero, suc, Bool, true, false, List, [], ◌∷◌, drop, Option, Some, None, Result, Ok, Err, if◌then◌else◌}
 use Rattle.source_tokens.specs.declared.tokens.Kind.{Kind}
 use Rattle.source_tokens.specs.declared.tokens.Kind.TheVariants as kind
 use Rattle.source_tokens.specs.declared.tokens.Token.{Token}
 use Rattle.source_reader.specs.declared.faults.Fault.{Fault}
 use Rattle.source_reader.specs.declared.faults.Wrong.TheVariants as wrong
 use Rattle.source_reader.specs.Faults.{◌>>=◌, fault_at}
-use Rattle.source_reader.specs.Trees.{ExprTree, TestTree, ValueTree, StmtTree}
-use Rattle.source_reader.specs.Trees.{Constant, Variable, TwoTree, HoldsTree, NotTree, EitherTree, SkipTree, ThenTree, AssignTree, IfTree, LoopTree, BreakTree, ContinueTree}
+use Rattle.source_reader.specs.Trees.{StmtTree, SkipTree, ThenTree, IfTree, LoopTree, BreakTree, ContinueTree}
 use Rattle.source_reader.specs.declared.names.Meaning.{Meaning}
 use Rattle.source_reader.specs.declared.names.Meaning.TheVariants as meaning
 use Rattle.source_reader.specs.declared.names.Task.{Task}
@@ -18,12 +15,13 @@ use Rattle.source_reader.specs.declared.tasks.Reach.TheVariants as reach
 use Rattle.source_reader.specs.Names.{Scope, WithName, Waited, Inner, meaning_of, new_number}
 use Rattle.source_reader.specs.Tasks.{free_group, waited, leaving, block_end}
 use Rattle.source_reader.specs.Waits.{next_wait}
-use Rattle.source_reader.specs.Lines.{assigned, leaves, after_begin, after_line_ends, ended, after_end, let_name}
+use Rattle.source_reader.specs.Lines.{leaves, after_begin, after_line_ends, ended, after_end, let_name}
 use Rattle.source_reader.specs.declared.calls.Run.TheVariants as run
 use Rattle.source_reader.specs.Calls.{run_at, is_spawn}
 use Rattle.source_reader.specs.Groups.{gathered, group_at, into_at, cancel_at}
 use Rattle.source_reader.specs.Simple.{ReadStmt, condition_at, count_at, let_at, assigned_at, wait_at, sync_at, region_at}
-use Rattle.source_reader.specs.Returns.{return_at}
+use Rattle.source_reader.specs.Counting.{counting_loop}
+use Rattle.source_reader.specs.Giving.{give_at, return_in}
 use Rattle.source_reader.specs.Marks.{unexpected}
 
 -- What is read: `{ .. }`; what follows `{`, where what comes may never be reached; a statement; or what may follow the block of an `if`. Each says whether there is a loop around it.
@@ -96,38 +94,6 @@ while_at next names ts = do
   b ← next (Inner true names) (Block true) c.1
   Ok (LoopTree c.0 b.0 SkipTree, b.1)
 
--- whether the end is not reached
-abbrev pub before_end : (index end : ℕ) → (by : ℤ) → ExprTree
-before_end i h by = if int_lt by (pos 0) then TwoTree op.Below (Variable h) (Variable i) else TwoTree op.Below (Variable i) (Variable h)
-
--- how far the end is, which may wrap
-abbrev pub to_end : (index end : ℕ) → ExprTree
-to_end i h = TwoTree op.Minus (Variable h) (Variable i)
-
-abbrev pub is_behind : ExprTree → TestTree
-is_behind e = HoldsTree (TwoTree op.Below e (Constant (pos 0)))
-
--- Whether the end, which is not reached, is further than a step. If the sign of the difference is not the step's, it has wrapped.
-abbrev pub is_further : (index end : ℕ) → (by : ℤ) → TestTree
-is_further i h by =
-    if int_lt by (pos 0) then EitherTree (NotTree (is_behind (to_end i h))) (HoldsTree (TwoTree op.Below (to_end i h) (Constant by)))
-    else EitherTree (is_behind (to_end i h)) (HoldsTree (TwoTree op.Below (Constant by) (to_end i h)))
-
-abbrev pub advanced : (index : ℕ) → (by : ℤ) → StmtTree
-advanced i by = AssignTree i (TwoTree op.Plus (Variable i) (Constant by))
-
--- To the next number of the index, or to the end. One by one no number is skipped, and none wraps.
-abbrev pub next_number : (index end : ℕ) → (by : ℤ) → StmtTree
-next_number i h by = if int_eq by (pos 1) then advanced i by else IfTree (is_further i h by) (advanced i by) (AssignTree i (Variable h))
-
--- the turns of a loop whose index is set already
-abbrev pub turns : (index end : ℕ) → (by : ℤ) → StmtTree → StmtTree
-turns i h by body = LoopTree (HoldsTree (before_end i h by)) body (next_number i h by)
-
--- The index counts up to an end that is computed once, or down to it.
-abbrev pub counting_loop : (index end : ℕ) → (by : ℤ) → (low high : ValueTree) → StmtTree → StmtTree
-counting_loop i h by low high body = ThenTree (assigned i low) (ThenTree (assigned h high) (turns i h by body))
-
 -- behind `for`
 abbrev pub for_at : Reader → Scope → List Token → ReadStmt
 for_at next names ts = do
@@ -149,7 +115,8 @@ if_in_loop false s rest ts = Err (fault_at ts wrong.NoLoop)
 abbrev pub line_of : Reader → Scope → Bool → Kind → List Token → List Token → ReadStmt
 line_of next names in_loop kind.Let rest ts = let_at names rest
 line_of next names in_loop (kind.Name x) rest ts = assigned_at names (meaning_of x names) ts rest
-line_of next names in_loop kind.Return rest ts = return_at names rest
+line_of next names in_loop kind.Return rest ts = return_in names ts rest
+line_of next names in_loop kind.Give rest ts = give_at names ts rest
 line_of next names in_loop kind.Call rest ts = run_at names (run.Call None) rest
 line_of next names in_loop kind.Isolate rest ts = region_at names ts
 line_of next names in_loop kind.Post rest ts = run_at names run.Post rest

@@ -11,7 +11,7 @@ use Rattle.source_reader.specs.declared.names.TaskGroup.TheVariants as task_grou
 use Rattle.source_reader.specs.declared.tasks.Reach.{Reach}
 use Rattle.source_reader.specs.declared.tasks.Reach.TheVariants as reach
 use Rattle.source_reader.specs.Faults.{fault_at}
-use Rattle.source_reader.specs.Names.{Scope, Functions, WithName, WithInline, Waited, Inner, is_same_group}
+use Rattle.source_reader.specs.Names.{Scope, Functions, WithName, WithInline, Waited, Inner, Gathering, is_same_group}
 use Rattle.source_reader.specs.Trees.{StmtTree, ThenTree, WaitTree, SkipTree}
 
 -- the number of a group; 0 is that of calls
@@ -41,6 +41,7 @@ task_in r g (WithName x m others) = first_task (of_group g m) (task_in r g other
 task_in r g (WithInline x f others) = task_in r g others
 task_in r g (Waited h others) = if is_same_group h g then None else task_in r g others
 task_in r g (Inner is_loop others) = if ends_at r is_loop then None else task_in r g others
+task_in r g (Gathering gathers others) = task_in r g others
 
 -- the first of those, by their groups
 abbrev pub pending : Reach → Scope → Option Task
@@ -69,6 +70,7 @@ is_outermost (WithName x m others) = is_outermost others
 is_outermost (WithInline x f others) = is_outermost others
 is_outermost (Waited g others) = is_outermost others
 is_outermost (Inner is_loop others) = false
+is_outermost (Gathering g others) = false
 
 -- a wait for a task, whose value goes to its variable
 abbrev pub waited : Task → StmtTree

@@ -1,6 +1,6 @@
 // Functions that are run: called, spawned, as regions, or posted.
 ghost use Rattle.std.specs.Prelude.{◌≡◌, IfOk};
-ghost use Rattle.source_reader.specs.Calls.{found, callee_at, argument_at, view_arguments, no_argument, one_argument, two_arguments, arguments_at, made, run_at, spawn_at, is_spawn};
+ghost use Rattle.source_reader.specs.Calls.{found, callee_titled, callee_at, argument_at, view_arguments, no_argument, one_argument, two_arguments, arguments_at, made, run_at, spawn_at, is_spawn};
 ghost use Rattle.source_reader.specs.Faults.{Gives};
 ghost use Rattle.source_reader.specs.Headers.{callee_in};
 ghost use Rattle.source_reader.specs.Names.{names_of, functions_in};
@@ -33,6 +33,7 @@ fn callee_of(title: Title, names: &Names) -> Option<Callee>
         Names::Inline(_, _, others) => callee_of(title, others),
         Names::Waited(_, others) => callee_of(title, others),
         Names::Inner(_, others) => callee_of(title, others),
+        Names::Gathering(_, others) => callee_of(title, others),
     }
 }
 
@@ -45,20 +46,31 @@ fn found(callee: Option<Callee>, tokens: &[Token]) -> Result<Callee, ReadError>
     }
 }
 
-/// The function whose name is at the front.
-fn callee_at(names: &Names, tokens: &[Token]) -> Result<Callee, ReadError>
-    ensures { Gives (λ f. f) result (callee_at (names_of names.now) tokens.now) }
+/// The function of that title, which the first of the tokens says.
+pub(crate) fn callee_titled(
+    title: Title,
+    names: &Names,
+    tokens: &[Token],
+) -> Result<Callee, ReadError>
+    ensures { Gives (λ f. f) result (callee_titled title (names_of names.now) tokens.now) }
 {
-    let title = title_at(tokens);
     match title {
         Title::Missing => Err(fault_at(tokens, Wrong::Unexpected)),
         Title::Main => found(callee_of(title, names), tokens),
         Title::Name(_) => found(callee_of(title, names), tokens),
+        Title::Gathering(_) => found(callee_of(title, names), tokens),
     }
 }
 
+/// The function whose name is at the front.
+fn callee_at(names: &Names, tokens: &[Token]) -> Result<Callee, ReadError>
+    ensures { Gives (λ f. f) result (callee_at (names_of names.now) tokens.now) }
+{
+    callee_titled(title_at(tokens), names, tokens)
+}
+
 /// An argument, and the tokens after it.
-fn argument_at<'a>(
+pub(crate) fn argument_at<'a>(
     alloc: Global,
     names: &Names,
     tokens: &'a [Token],
@@ -74,8 +86,8 @@ fn argument_at<'a>(
 /// The two numbers that a task gets.
 #[derive(Drop)]
 pub(crate) struct Arguments {
-    first: Expr,
-    second: Expr,
+    pub(crate) first: Expr,
+    pub(crate) second: Expr,
 }
 
 fn no_argument<'a>(
@@ -172,7 +184,12 @@ pub(crate) enum Run {
 }
 
 /// What is made of the function of that number.
-fn made(alloc: Global, run: Run, number: u8, arguments: Arguments) -> Result<Stmt, AllocError>
+pub(crate) fn made(
+    alloc: Global,
+    run: Run,
+    number: u8,
+    arguments: Arguments,
+) -> Result<Stmt, AllocError>
     ensures { IfOk result (λ s. stmt_tree_of s ≡ made run number (view_arguments arguments)) }
 {
     let Arguments { first, second } = arguments;

@@ -23,6 +23,8 @@ pub enum Wrong {
     NoConstant,
     /// The step of a loop is 0.
     NoStep,
+    /// How many numbers a task of a parallel loop takes is no constant from 1.
+    NoGrain,
     /// A constant, a cell or an inline function below a function, or one of the first two below an inline function.
     LateItem,
     /// More constants and cells than a source may have, or more inline functions.
@@ -45,6 +47,10 @@ pub enum Wrong {
     NeverReached,
     /// `break` or `continue`, with no loop around it.
     NoLoop,
+    /// `give` outside the body of a parallel loop.
+    NotGathered,
+    /// `return` in the body of a parallel loop.
+    GatheringReturn,
     /// A function of this name is there already, or it is `main` and not the first one.
     KnownFunction,
     /// No function of this name is there.
@@ -65,7 +71,7 @@ pub enum Wrong {
     TaskLeft,
     /// More tasks and groups that were not waited for than a function may have.
     NoGroup,
-    /// More functions than a job may have.
+    /// More functions than a job may have, of which each parallel loop has one.
     TooManyFunctions,
     /// There is no function.
     NoFunction,

@@ -17,8 +17,11 @@ use std::alloc::Global;
 /// How long the body of a function may be.
 pub const BODY_FUEL: u16 = 600;
 
+/// How many functions a source may have.
+pub const FUNCTIONS: u8 = 16;
+
 /// How many variables a statement needs.
-fn variables_of(s: &Stmt) -> u8
+pub(crate) fn variables_of(s: &Stmt) -> u8
     ensures { result ≡ variables_of (stmt_tree_of s.now) }
 {
     match s {
@@ -54,7 +57,7 @@ fn made_for(maker: Maker) -> u8
     }
 }
 
-fn larger(a: u8, b: u8) -> u8
+pub(crate) fn larger(a: u8, b: u8) -> u8
     ensures { result ≡ larger a b }
 {
     if a < b { b } else { a }
@@ -273,7 +276,10 @@ fn with_name(
     Ok(known)
 }
 
-fn with_function(before: Vec<Function>, function: Function) -> Result<Vec<Function>, ReadError>
+pub(crate) fn with_function(
+    before: Vec<Function>,
+    function: Function,
+) -> Result<Vec<Function>, ReadError>
     ensures { Gives (λ v. map function_tree_of v.items) result
         (Ok (map function_tree_of before.items ++ function_tree_of function ∷ [])) }
 {

@@ -11,6 +11,7 @@ use crate::faults::ReadError;
 use crate::groups::own_group_at;
 use crate::marks::{after_close, after_first, after_open};
 use crate::names::{Meaning, Names, TaskGroup, meaning_of};
+use crate::ranges::parallel_at;
 use crate::tasks::group_of;
 use job_language::Key;
 use source_language::{Question, Stmt};
@@ -25,6 +26,8 @@ pub(crate) enum Giver {
     Cancelled,
     /// A wait for the tasks of a group.
     Wait(TaskGroup),
+    /// A parallel loop.
+    Gathering,
     /// A cell, or all of a key.
     Cell(Question),
 }
@@ -70,6 +73,7 @@ pub(crate) fn giver_at(names: &Names, tokens: &[Token]) -> Option<Giver>
         Kind::Isolate => Some(Giver::Isolate),
         Kind::Cancelled => Some(Giver::Cancelled),
         Kind::Wait => Some(Giver::Wait(own_group_at(names, rest)?)),
+        Kind::Gathers(_) => Some(Giver::Gathering),
         Kind::Name(name) => named_giver(name, names, rest),
         _ => None,
     }
@@ -104,6 +108,7 @@ pub(crate) fn given_by<'a>(
             let wait = Stmt::Wait(Some(number), None, group_of(group));
             Ok((wait, after_first(rest)))
         }
+        Giver::Gathering => parallel_at(alloc, names, number, rest),
         Giver::Cell(question) => Ok((Stmt::Read(number, question), after_first(rest))),
     }
 }

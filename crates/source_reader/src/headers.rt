@@ -1,10 +1,10 @@
 // The functions that a source declares: a body may call them before they are read.
-ghost use Rattle.std.specs.Prelude.{◌≡◌, IfOk};
-ghost use Rattle.source_reader.specs.Headers.{is_fn, is_inline, begins, title_of, title_at, parameters_in, header_of, headers_behind, headers_of, is_same, callee_in};
+ghost use Rattle.std.specs.Prelude.{◌≡◌, ◌++◌, IfOk, false};
+ghost use Rattle.source_reader.specs.Headers.{is_fn, is_inline, begins, title_of, title_at, parameters_in, header_of, headers_behind, gathers_of, gathering_headers, headers_of, is_same, callee_in};
 
 use crate::marks::{after_first, is_close};
 use crate::names::number_after;
-use source_tokens::{Kind, Token};
+use source_tokens::{Gathers, Kind, Token};
 use std::alloc::{AllocError, Global};
 
 /// What a function is called.
@@ -12,6 +12,8 @@ use std::alloc::{AllocError, Global};
 pub(crate) enum Title {
     Main,
     Name(usize),
+    /// That of a parallel loop, by how many tokens are behind its word.
+    Gathering(usize),
     /// There is no name.
     Missing,
 }
@@ -98,9 +100,44 @@ fn header_of(tokens: &[Token]) -> Header
     }
 }
 
-/// The functions that are declared, in order.
+/// What the word of a parallel loop says, if it is one.
+pub(crate) fn gathers_of(kind: Kind) -> Option<Gathers>
+    ensures { result ≡ gathers_of kind }
+{
+    match kind {
+        Kind::Gathers(gathers) => Some(gathers),
+        _ => None,
+    }
+}
+
+/// These functions, and then those of parallel loops.
+fn with_gatherings(headers: Vec<Header>, tokens: &[Token]) -> Result<Vec<Header>, AllocError>
+    ensures { IfOk result (λ v. v.items ≡ headers.items ++ gathering_headers tokens.now) }
+{
+    let mut headers = headers;
+    let mut left = tokens;
+    while let [first, rest @ ..] = left {
+        left = rest;
+        if gathers_of(first.kind).is_some() {
+            headers.push(Header {
+                title: Title::Gathering(rest.len()),
+                parameters: 2,
+            })?;
+        }
+    }
+    Ok(headers)
+}
+
+/// The functions that are declared, in order, and behind them those of parallel loops.
 pub(crate) fn headers_in(alloc: Global, tokens: &[Token]) -> Result<Vec<Header>, AllocError>
     ensures { IfOk result (λ v. v.items ≡ headers_of tokens.now) }
+{
+    with_gatherings(declared_in(alloc, tokens)?, tokens)
+}
+
+/// The functions that are declared, in order.
+fn declared_in(alloc: Global, tokens: &[Token]) -> Result<Vec<Header>, AllocError>
+    ensures { IfOk result (λ v. v.items ≡ headers_behind false tokens.now) }
 {
     let mut headers = Vec::new(alloc);
     let mut left = tokens;
@@ -121,6 +158,7 @@ fn is_same(a: Title, b: Title) -> bool
     match (a, b) {
         (Title::Main, Title::Main) => true,
         (Title::Name(name), Title::Name(other)) => name == other,
+        (Title::Gathering(left), Title::Gathering(other)) => left == other,
         _ => false,
     }
 }

@@ -7,7 +7,8 @@ ghost use Rattle.source_reader.specs.Items.{constant_at, is_item, is_cell, is_in
 
 use crate::constants::constant_in;
 use crate::faults::{ReadError, Wrong, fault_at};
-use crate::functions::functions_from;
+use crate::functions::{FUNCTIONS, functions_from};
+use crate::gathering::gatherings_from;
 use crate::headers::is_inline as is_inline_of;
 use crate::keys::cell_at;
 use crate::lines::{after_line_ends, after_set, free_name, item_ended};
@@ -24,9 +25,6 @@ pub const ITEMS: u8 = 100;
 
 /// How many inline functions a source may have.
 pub const INLINES: u8 = 100;
-
-/// How many functions a source may have.
-pub const FUNCTIONS: u8 = 16;
 
 /// `N = v`, behind `const` or `param`.
 pub(crate) fn constant_at<'a>(
@@ -113,7 +111,8 @@ fn inlines_from(
     let lines = after_line_ends(tokens);
     if !is_inline(lines) {
         let known = Vec::new(alloc);
-        return functions_from(alloc, FUNCTIONS, names, known, Vec::new(alloc), lines);
+        let functions = functions_from(alloc, FUNCTIONS, names, known, Vec::new(alloc), lines)?;
+        return gatherings_from(alloc, names, functions, lines);
     }
     if left == 0 {
         return Err(fault_at(lines, Wrong::TooManyItems));

@@ -73,6 +73,7 @@ fn has_key(key: Key, names: &Names) -> bool
         Names::Inline(_, _, others) => has_key(key, others),
         Names::Waited(_, others) => has_key(key, others),
         Names::Inner(_, others) => has_key(key, others),
+        Names::Gathering(_, others) => has_key(key, others),
     }
 }
 

@@ -1,7 +1,7 @@
 // Loops that count.
 ghost use Rattle.std.specs.Prelude.{◌≡◌, IfOk};
 ghost use Rattle.source_reader.specs.Trees.{tree_of, test_tree_of, stmt_tree_of, value_tree_of};
-ghost use Rattle.source_reader.specs.Statements.{before_end, to_end, is_behind, is_further, advanced, next_number, turns, counting_loop};
+ghost use Rattle.source_reader.specs.Counting.{before_end, to_end, is_behind, is_further, advanced, next_number, turns, counting_loop};
 
 use crate::folding::two;
 use crate::joining::Value;
@@ -10,7 +10,7 @@ use source_language::{Expr, Operator, Stmt, Test};
 use std::alloc::{AllocError, Global};
 
 /// Whether the end is not reached.
-fn before_end(alloc: Global, index: u8, end: u8, by: i64) -> Result<Expr, AllocError>
+pub(crate) fn before_end(alloc: Global, index: u8, end: u8, by: i64) -> Result<Expr, AllocError>
     ensures { IfOk result (λ e. tree_of e ≡ before_end index end by) }
 {
     let index = Expr::Variable(index);
@@ -41,7 +41,7 @@ fn is_behind(alloc: Global, e: Expr) -> Result<Test, AllocError>
 }
 
 /// Whether the end, which is not reached, is further than a step.
-fn is_further(alloc: Global, index: u8, end: u8, by: i64) -> Result<Test, AllocError>
+pub(crate) fn is_further(alloc: Global, index: u8, end: u8, by: i64) -> Result<Test, AllocError>
     ensures { IfOk result (λ t. test_tree_of t ≡ is_further index end by) }
 {
     let has_wrapped = is_behind(alloc, to_end(alloc, index, end)?)?;
@@ -86,7 +86,13 @@ fn next_number(alloc: Global, index: u8, end: u8, by: i64) -> Result<Stmt, Alloc
 }
 
 /// The turns of a loop whose index is set already.
-fn turns(alloc: Global, index: u8, end: u8, by: i64, body: Stmt) -> Result<Stmt, AllocError>
+pub(crate) fn turns(
+    alloc: Global,
+    index: u8,
+    end: u8,
+    by: i64,
+    body: Stmt,
+) -> Result<Stmt, AllocError>
     ensures { IfOk result (λ s. stmt_tree_of s ≡ turns index end by (stmt_tree_of body)) }
 {
     let before = before_end(alloc, index, end, by)?;

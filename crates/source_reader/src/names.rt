@@ -6,10 +6,11 @@ ghost use Rattle.source_reader.specs.Trees.{inline_tree_of};
 ghost use Rattle.source_reader.specs.Names.{names_of, is_same_group, behind_wait, awaited, outer, meaning_of, inline_of, number_after, number_behind, number_past, number_next, new_number};
 
 use crate::faults::{ReadError, Wrong, fault_at};
+use crate::halving::OTHER;
 use crate::headers::Header;
 use crate::inlines::Inline;
 use job_language::Key;
-use source_tokens::Token;
+use source_tokens::{Gathers, Token};
 
 /// A group of tasks that have names. None of them is that of calls.
 #[derive(Clone, Copy)]
@@ -32,7 +33,7 @@ pub(crate) struct Task {
 #[derive(Clone, Copy)]
 pub(crate) enum Meaning {
     Variable(u8),
-    /// The index of a `for`, which can't be assigned to. The end is the variable behind it.
+    /// The index of a `for` or of a parallel loop, which can't be assigned to. The end is the variable behind it.
     Counter(u8),
     Constant(i64),
     /// A task or a group of this block, which was not waited for.
@@ -61,6 +62,8 @@ pub(crate) enum Names<'a> {
     Waited(TaskGroup, &'a Names<'a>),
     /// The names at the beginning of a block inside the function's own, and whether it is that of a loop.
     Inner(bool, &'a Names<'a>),
+    /// The names at the beginning of the body of a parallel loop.
+    Gathering(Gathers, &'a Names<'a>),
 }
 
 pub(crate) fn is_same_group(a: TaskGroup, b: TaskGroup) -> bool
@@ -139,6 +142,7 @@ pub(crate) fn meaning_of(name: usize, names: &Names) -> Option<Meaning>
             Some(meaning) => Some(outer(meaning)),
             None => None,
         },
+        Names::Gathering(_, others) => meaning_of(name, others),
     }
 }
 
@@ -158,6 +162,7 @@ pub(crate) fn inline_of<'a>(name: usize, names: &'a Names) -> Option<&'a Inline>
         }
         Names::Waited(_, others) => inline_of(name, others),
         Names::Inner(_, others) => inline_of(name, others),
+        Names::Gathering(_, others) => inline_of(name, others),
     }
 }
 
@@ -217,5 +222,6 @@ pub(crate) fn new_number(names: &Names, tokens: &[Token]) -> Result<u8, ReadErro
         Names::Inline(_, _, _) => Ok(0),
         Names::Waited(_, others) => new_number(others, tokens),
         Names::Inner(_, others) => new_number(others, tokens),
+        Names::Gathering(_, _) => Ok(OTHER),
     }
 }

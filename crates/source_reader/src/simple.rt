@@ -53,7 +53,7 @@ pub(crate) fn new_name(names: &Names, tokens: &[Token]) -> Result<u8, ReadError>
 }
 
 /// What is given to a variable, behind `=`.
-fn given_at<'a>(
+pub(crate) fn given_at<'a>(
     alloc: Global,
     names: &Names,
     number: u8,

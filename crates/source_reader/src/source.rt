@@ -7,10 +7,10 @@ ghost use Rattle.source_reader.specs.Places.{beginning, place_left, place_of};
 ghost use Rattle.source_reader.specs.Items.{items_from};
 ghost use Rattle.source_reader.specs.Names.{Functions};
 ghost use Rattle.source_reader.specs.declared.items.TheConstants.{ITEMS};
-ghost use Rattle.source_reader.specs.Source.{read_tokens, some_functions, GivesSource, nth_fn, function_place};
+ghost use Rattle.source_reader.specs.Source.{read_tokens, some_functions, GivesSource, nth_gathering, nth_fn, function_place};
 
 use crate::faults::{Fault, ReadError, Wrong, fault_at};
-use crate::headers::{Header, begins, headers_in, is_inline};
+use crate::headers::{Header, begins, gathers_of, headers_in, is_inline};
 use crate::inlines::Inline;
 use crate::items::{ITEMS, items_from};
 use crate::names::Names;
@@ -63,22 +63,40 @@ fn place_left(tokens: &[Token], text: &[u8], left: usize) -> Place
     place_of(text, beginning(behind(tokens, gone), text))
 }
 
-/// Where the function of that number begins, or else the end.
-fn nth_fn(behind_inline: bool, tokens: &[Token], number: usize, end: usize) -> usize
-    ensures { result ≡ nth_fn behind_inline tokens.now number end }
+/// Where the parallel loop of that number begins, or else the end.
+fn nth_gathering(tokens: &[Token], number: usize, end: usize) -> usize
+    ensures { result ≡ nth_gathering tokens.now number end }
+{
+    match tokens.split_first() {
+        Some((first, rest)) => {
+            if gathers_of(first.kind).is_none() {
+                nth_gathering(rest, number, end)
+            } else if number == 0 {
+                first.at
+            } else {
+                nth_gathering(rest, number - 1, end)
+            }
+        }
+        None => end,
+    }
+}
+
+/// Where the function of that number begins. Those of parallel loops come behind those of the source.
+fn nth_fn(behind_inline: bool, tokens: &[Token], all: &[Token], number: usize, end: usize) -> usize
+    ensures { result ≡ nth_fn behind_inline tokens.now all.now number end }
 {
     match tokens.split_first() {
         Some((first, rest)) => {
             let inline = is_inline(first.kind);
             if !begins(behind_inline, first.kind) {
-                nth_fn(inline, rest, number, end)
+                nth_fn(inline, rest, all, number, end)
             } else if number == 0 {
                 first.at
             } else {
-                nth_fn(inline, rest, number - 1, end)
+                nth_fn(inline, rest, all, number - 1, end)
             }
         }
-        None => end,
+        None => nth_gathering(all, number, end),
     }
 }
 
@@ -87,7 +105,8 @@ pub fn function_place(alloc: Global, text: &[u8], number: usize) -> Result<Place
     ensures { IfOk result (λ place. place ≡ function_place text.now number) }
 {
     let tokens = tokens_in(alloc, text)?;
-    Ok(place_of(text, nth_fn(false, tokens.as_slice(), number, text.len())))
+    let all = tokens.as_slice();
+    Ok(place_of(text, nth_fn(false, all, all, number, text.len())))
 }
 
 /// There has to be a function.

@@ -8,11 +8,11 @@ ghost use Rattle.source_reader.specs.Statements.{is_if, if_in_loop, line_and_res
 use crate::calls::{Run, run_at};
 use crate::declaring::declared_meaning;
 use crate::faults::{ReadError, Wrong, fault_at};
+use crate::giving::{give_at, return_in};
 use crate::groups::{cancel_at, gathered, group_at, into_at};
 use crate::lines::{after_begin, after_end, after_line_ends, ended, let_name};
 use crate::loops::counting_loop;
 use crate::names::{Meaning, Names, new_number};
-use crate::returns::return_at;
 use crate::simple::{
     Count, assigned_at, condition_at, count_at, let_at, region_at, sync_at, wait_at,
 };
@@ -165,7 +165,8 @@ fn line_at<'a>(
     match first.kind {
         Kind::Let => let_at(alloc, names, rest),
         Kind::Name(name) => assigned_at(alloc, names, name, tokens, rest),
-        Kind::Return => return_at(alloc, names, rest),
+        Kind::Return => return_in(alloc, names, tokens, rest),
+        Kind::Give => give_at(alloc, names, tokens, rest),
         Kind::Call => run_at(alloc, names, Run::Call(None), rest),
         Kind::Isolate => region_at(alloc, names, tokens),
         Kind::Post => run_at(alloc, names, Run::Post, rest),

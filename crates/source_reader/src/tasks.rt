@@ -84,6 +84,7 @@ fn task_in(reach: Reach, group: TaskGroup, names: &Names) -> Option<Task>
                 task_in(reach, group, others)
             }
         }
+        Names::Gathering(_, others) => task_in(reach, group, others),
     }
 }
 
@@ -148,6 +149,7 @@ fn is_outermost(names: &Names) -> bool
         Names::Inline(_, _, others) => is_outermost(others),
         Names::Waited(_, others) => is_outermost(others),
         Names::Inner(_, _) => false,
+        Names::Gathering(_, _) => false,
     }
 }
 

@@ -1,10 +1,11 @@
 -- Words and signs of the language.
-use Rattle.std.specs.Prelude.{ℕ, Bool, true, false, ◌||◌, List, [], ◌∷◌, Option, Some, None, if◌then◌else◌, codes}
+use Rattle.std.specs.Prelude.{ℕ, List, [], ◌∷◌, Option, Some, None, if◌then◌else◌, codes}
 use Rattle.std.specs.Str.{bytes_eq}
 use Rattle.source_language.specs.declared.syntax.Operator.{Operator}
 use Rattle.source_language.specs.declared.syntax.Operator.TheVariants as op
 use Rattle.source_tokens.specs.declared.tokens.Sign.{Sign}
 use Rattle.source_tokens.specs.declared.tokens.Sign.TheVariants as sign
+use Rattle.source_tokens.specs.declared.tokens.Gathers.TheVariants as gathers
 use Rattle.source_tokens.specs.declared.tokens.Part.TheVariants as part
 use Rattle.source_tokens.specs.declared.tokens.Kind.{Kind}
 use Rattle.source_tokens.specs.declared.tokens.Kind.TheVariants as kind
@@ -61,6 +62,21 @@ item_word lexeme =
     else if bytes_eq lexeme (codes "inline") then Some kind.Inline
     else None
 
+-- the word of a parallel loop
+abbrev pub gathering_word : List ℕ → Option Kind
+gathering_word lexeme =
+    if bytes_eq lexeme (codes "psum") then Some (kind.Gathers gathers.Sum)
+    else if bytes_eq lexeme (codes "pmin") then Some (kind.Gathers gathers.Least)
+    else if bytes_eq lexeme (codes "pmax") then Some (kind.Gathers gathers.Greatest)
+    else None
+
+-- `grain` or `give`
+abbrev pub giving_word : List ℕ → Option Kind
+giving_word lexeme =
+    if bytes_eq lexeme (codes "grain") then Some kind.Grain
+    else if bytes_eq lexeme (codes "give") then Some kind.Give
+    else None
+
 -- `spawn`, `wait` or `sync`
 abbrev pub waiting_word : List ℕ → Option Kind
 waiting_word lexeme =
@@ -106,9 +122,13 @@ shared_word lexeme = first_of (region_word lexeme) (first_of (cell_word lexeme) 
 abbrev pub task_word : List ℕ → Option Kind
 task_word lexeme = first_of (waiting_word lexeme) (first_of (group_word lexeme) (shared_word lexeme))
 
--- a word of counting loops, of what stands above functions, or of tasks
+-- a word of parallel loops, of tasks and their groups, or of what tasks share
+abbrev pub parallel_word : List ℕ → Option Kind
+parallel_word lexeme = first_of (gathering_word lexeme) (first_of (giving_word lexeme) (task_word lexeme))
+
+-- a word of counting loops, of what stands above functions, or of what runs in parallel
 abbrev pub later_word : List ℕ → Option Kind
-later_word lexeme = first_of (counting_word lexeme) (first_of (item_word lexeme) (task_word lexeme))
+later_word lexeme = first_of (counting_word lexeme) (first_of (item_word lexeme) (parallel_word lexeme))
 
 -- a word that is taken
 abbrev pub word_named : List ℕ → Option Kind
@@ -170,32 +190,13 @@ update_named lexeme =
     else if bytes_eq lexeme (codes ">>=") then Some op.ShiftRight
     else None
 
--- a word of parallel sums
-abbrev pub is_gathering_word : List ℕ → Bool
-is_gathering_word lexeme =
-    if bytes_eq lexeme (codes "psum") then true
-    else if bytes_eq lexeme (codes "pmin") then true
-    else if bytes_eq lexeme (codes "pmax") then true
-    else false
-
--- a word inside parallel sums
-abbrev pub is_giving_word : List ℕ → Bool
-is_giving_word lexeme =
-    if bytes_eq lexeme (codes "grain") then true
-    else if bytes_eq lexeme (codes "give") then true
-    else false
-
--- a word of the language that is not taken
-abbrev pub is_other_word : List ℕ → Bool
-is_other_word lexeme = is_gathering_word lexeme || is_giving_word lexeme
-
-abbrev pub update_kind : Option Operator → List ℕ → Option Kind
-update_kind (Some o) lexeme = Some (kind.Update o)
-update_kind None lexeme = if is_other_word lexeme then Some kind.Other else None
+abbrev pub update_kind : Option Operator → Option Kind
+update_kind (Some o) = Some (kind.Update o)
+update_kind None = None
 
 abbrev pub sign_kind_of : Option Sign → List ℕ → Option Kind
 sign_kind_of (Some s) lexeme = Some (kind.Sign s)
-sign_kind_of None lexeme = update_kind (update_named lexeme) lexeme
+sign_kind_of None lexeme = update_kind (update_named lexeme)
 
 abbrev pub sign_kind : List ℕ → Option Kind
 sign_kind lexeme = sign_kind_of (sign_named lexeme) lexeme

@@ -4,11 +4,10 @@
 mod bytes;
 mod lexemes;
 mod numbers;
-mod others;
 mod scanning;
 mod signs;
 mod tokens;
 mod words;
 
 pub use scanning::tokens_in;
-pub use tokens::{Kind, Part, Sign, Token};
+pub use tokens::{Gathers, Kind, Part, Sign, Token};

@@ -2,11 +2,10 @@
 ghost use Rattle.std.specs.Prelude.{◌≡◌};
 ghost use Rattle.source_tokens.specs.Words.{mark_named, sign_named, update_named, sign_kind};
 
-use crate::others::is_other_word;
 use crate::tokens::{Kind, Sign};
 use source_language::Operator;
 
-/// The kind of an operator, or of a word that is not taken.
+/// The kind of an operator.
 pub(crate) fn sign_kind(lexeme: &[u8]) -> Option<Kind>
     ensures { result ≡ sign_kind lexeme.now }
 {
@@ -14,13 +13,7 @@ pub(crate) fn sign_kind(lexeme: &[u8]) -> Option<Kind>
         Some(sign) => Some(Kind::Sign(sign)),
         None => match update_named(lexeme) {
             Some(op) => Some(Kind::Update(op)),
-            None => {
-                if is_other_word(lexeme) {
-                    Some(Kind::Other)
-                } else {
-                    None
-                }
-            }
+            None => None,
         },
     }
 }

@@ -35,6 +35,17 @@ pub enum Part {
     Count,
 }
 
+/// What a parallel loop makes of the values that its body gives.
+#[derive(Clone, Copy, Debug, PartialEq, Eq)]
+pub enum Gathers {
+    /// `psum`
+    Sum,
+    /// `pmin`
+    Least,
+    /// `pmax`
+    Greatest,
+}
+
 /// What a token is.
 #[derive(Clone, Copy, Debug, PartialEq, Eq)]
 pub enum Kind {
@@ -85,6 +96,10 @@ pub enum Kind {
     For,
     In,
     Step,
+    /// `psum`, `pmin` or `pmax`.
+    Gathers(Gathers),
+    Grain,
+    Give,
     /// `const` or `param`.
     Const,
     Inline,
@@ -96,7 +111,7 @@ pub enum Kind {
     Part(Part),
     /// `@`
     At,
-    /// A word or sign of the language that is not taken.
+    /// What is no token of the language.
     Other,
 }
 

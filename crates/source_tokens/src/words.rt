@@ -1,10 +1,10 @@
 // Words of the language.
 ghost use Rattle.std.specs.Prelude.{◌≡◌};
 ghost use Rattle.std.specs.Str.{bytes_eq};
-ghost use Rattle.source_tokens.specs.Words.{word_named, opening_word, choice_word, leaving_word, asking_word, counting_word, item_word, waiting_word, group_word, region_word, cell_word, part_word, shared_word, task_word, later_word, kind_named};
+ghost use Rattle.source_tokens.specs.Words.{word_named, opening_word, choice_word, leaving_word, asking_word, counting_word, item_word, gathering_word, giving_word, waiting_word, group_word, region_word, cell_word, part_word, shared_word, task_word, parallel_word, later_word, kind_named};
 
 use crate::signs::{mark_named, sign_kind};
-use crate::tokens::{Kind, Part};
+use crate::tokens::{Gathers, Kind, Part};
 
 /// The kind of a word or sign of the language.
 pub(crate) fn kind_named(lexeme: &[u8]) -> Option<Kind>
@@ -135,6 +135,34 @@ fn item_word(lexeme: &[u8]) -> Option<Kind>
     }
 }
 
+/// The word of a parallel loop.
+fn gathering_word(lexeme: &[u8]) -> Option<Kind>
+    ensures { result ≡ gathering_word lexeme.now }
+{
+    if is(lexeme, b"psum") {
+        Some(Kind::Gathers(Gathers::Sum))
+    } else if is(lexeme, b"pmin") {
+        Some(Kind::Gathers(Gathers::Least))
+    } else if is(lexeme, b"pmax") {
+        Some(Kind::Gathers(Gathers::Greatest))
+    } else {
+        None
+    }
+}
+
+/// `grain` or `give`.
+fn giving_word(lexeme: &[u8]) -> Option<Kind>
+    ensures { result ≡ giving_word lexeme.now }
+{
+    if is(lexeme, b"grain") {
+        Some(Kind::Grain)
+    } else if is(lexeme, b"give") {
+        Some(Kind::Give)
+    } else {
+        None
+    }
+}
+
 /// `spawn`, `wait` or `sync`.
 fn waiting_word(lexeme: &[u8]) -> Option<Kind>
     ensures { result ≡ waiting_word lexeme.now }
@@ -230,7 +258,20 @@ fn task_word(lexeme: &[u8]) -> Option<Kind>
     }
 }
 
-/// A word of counting loops, of what stands above functions, or of tasks.
+/// A word of parallel loops, of tasks and their groups, or of what tasks share.
+fn parallel_word(lexeme: &[u8]) -> Option<Kind>
+    ensures { result ≡ parallel_word lexeme.now }
+{
+    match gathering_word(lexeme) {
+        Some(kind) => Some(kind),
+        None => match giving_word(lexeme) {
+            Some(kind) => Some(kind),
+            None => task_word(lexeme),
+        },
+    }
+}
+
+/// A word of counting loops, of what stands above functions, or of what runs in parallel.
 fn later_word(lexeme: &[u8]) -> Option<Kind>
     ensures { result ≡ later_word lexeme.now }
 {
@@ -238,7 +279,7 @@ fn later_word(lexeme: &[u8]) -> Option<Kind>
         Some(kind) => Some(kind),
         None => match item_word(lexeme) {
             Some(kind) => Some(kind),
-            None => task_word(lexeme),
+            None => parallel_word(lexeme),
         },
     }
 }

@@ -1,6 +1,6 @@
 use Rattle.std.proofs.Common.{◌≡◌, ◌++◌, length, false}
 use Rattle.source_reader.specs.Headers.{headers_behind}
-use Rattle.source_reader.proofs.headers.headers_in.Given as goal
+use Rattle.source_reader.proofs.headers.declared_in.Given as goal
 
 abbrev pub invariant-loop-left : goal.invariant-loop-left
 invariant-loop-left l = l.headers.items ++ headers_behind l.behind_inline l.left ≡ headers_behind false l.fn.tokens

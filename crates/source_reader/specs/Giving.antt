@@ -1,0 +1,61 @@
+-- What leaves the body of a parallel loop, for one number of its range.
+use Rattle.std.specs.Prelude.{ℕ, ◌+◌, nat_lt, List, Option, Some, None, is_none, Result, Ok, Err, if◌then◌else◌}
+use Rattle.source_tokens.specs.declared.tokens.Gathers.{Gathers}
+use Rattle.source_tokens.specs.declared.tokens.Token.{Token}
+use Rattle.source_reader.specs.declared.faults.Fault.{Fault}
+use Rattle.source_reader.specs.declared.faults.Wrong.TheVariants as wrong
+use Rattle.source_reader.specs.declared.givers.Giver.{Giver}
+use Rattle.source_reader.specs.declared.tasks.Reach.TheVariants as reach
+use Rattle.source_reader.specs.Faults.{◌>>=◌, fault_at}
+use Rattle.source_reader.specs.Givers.{giver_at}
+use Rattle.source_reader.specs.Halving.{taken}
+use Rattle.source_reader.specs.Names.{Scope, Functions, WithName, WithInline, Waited, Inner, Gathering, new_number}
+use Rattle.source_reader.specs.Returns.{behind, return_at}
+use Rattle.source_reader.specs.Simple.{ReadStmt, given_at}
+use Rattle.source_reader.specs.Tasks.{leaving}
+use Rattle.source_reader.specs.Trees.{ThenTree, ContinueTree}
+
+-- the parallel loop whose body this is
+abbrev pub gathers_in : Scope → Option Gathers
+gathers_in (Functions hs) = None
+gathers_in (WithName x m others) = gathers_in others
+gathers_in (WithInline x f others) = gathers_in others
+gathers_in (Waited g others) = gathers_in others
+gathers_in (Inner is_loop others) = gathers_in others
+gathers_in (Gathering g others) = Some g
+
+abbrev pub one_loop_more : ℕ → List Token → Result ℕ Fault
+one_loop_more k ts = if nat_lt k 240 then Ok (k + 1) else Err (fault_at ts wrong.TooLong)
+
+-- how many loops of this body are around the place
+abbrev pub loops_in : Scope → List Token → Result ℕ Fault
+loops_in (Functions hs) ts = Ok 0
+loops_in (WithName x m others) ts = loops_in others ts
+loops_in (WithInline x f others) ts = loops_in others ts
+loops_in (Waited g others) ts = loops_in others ts
+loops_in (Inner is_loop others) ts = loops_in others ts >>= λ k. if is_loop then one_loop_more k ts else Ok k
+loops_in (Gathering g others) ts = Ok 0
+
+abbrev pub behind_given : Option Giver → Scope → Scope
+behind_given None names = names
+behind_given (Some g) names = behind g names
+
+-- Behind `give`: the value goes to one more variable and into the total, tasks that were not waited for are waited for, and the next number comes.
+abbrev pub give_in : Gathers → Scope → List Token → ReadStmt
+give_in g names ts = do
+  k ← loops_in names ts
+  n ← new_number names ts
+  v ← given_at names n ts
+  Ok (ThenTree v.0 (ThenTree (taken g n) (leaving reach.Function (behind_given (giver_at names ts) names) (ContinueTree k))), v.1)
+
+abbrev pub give_of : Option Gathers → Scope → (ts rest : List Token) → ReadStmt
+give_of None names ts rest = Err (fault_at ts wrong.NotGathered)
+give_of (Some g) names ts rest = give_in g names rest
+
+-- `give`, which is the first of the tokens
+abbrev pub give_at : Scope → (ts rest : List Token) → ReadStmt
+give_at names ts rest = give_of (gathers_in names) names ts rest
+
+-- `return`, which is the first of the tokens: not in the body of a parallel loop
+abbrev pub return_in : Scope → (ts rest : List Token) → ReadStmt
+return_in names ts rest = if is_none (gathers_in names) then return_at names rest else Err (fault_at ts wrong.GatheringReturn)
