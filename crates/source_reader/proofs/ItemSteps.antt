@@ -2,7 +2,10 @@
 use Rattle.std.proofs.Common.{◌≡◌, ℕ, zero, suc, ◌-◌, ◌<◌, List, [], false, refl, ap, arith}
 use Rattle.source_tokens.specs.declared.tokens.Token.{Token}
 use Rattle.source_reader.specs.Names.{Scope}
-use Rattle.source_reader.specs.declared.items.TheConstants.{INLINES, FUNCTIONS}
+use Rattle.source_reader.specs.declared.functions.TheConstants.{FUNCTIONS}
+use Rattle.source_reader.specs.declared.items.TheConstants.{INLINES}
+use Rattle.source_reader.specs.Faults.{◌>>=◌}
+use Rattle.source_reader.specs.Gathering.{gatherings_from}
 use Rattle.source_reader.specs.Lines.{after_line_ends}
 use Rattle.source_reader.specs.Functions.{functions_from}
 use Rattle.source_reader.specs.Items.{is_item, is_inline, inline_or_fn, one_inline, inlines_from, item_at, one_item, no_item, items_from}
@@ -37,7 +40,8 @@ inlines_some (suc n) names ts h =
     ap (λ (k : ℕ). inline_or_fn (one_inline (inlines_from k)) names (after_line_ends ts)) e
 
 pub inlines_below : (n : ℕ) (names : Scope) (ts : List Token)
-    → is_inline (after_line_ends ts) ≡ false → inlines_from n names ts ≡ functions_from FUNCTIONS names [] [] (after_line_ends ts)
+    → is_inline (after_line_ends ts) ≡ false
+    → inlines_from n names ts ≡ (functions_from FUNCTIONS names [] [] (after_line_ends ts) >>= λ fs. gatherings_from names fs (after_line_ends ts))
 unfolding inlines_from
 inlines_below zero names ts e = rw e refl
 inlines_below (suc n) names ts e = rw e refl

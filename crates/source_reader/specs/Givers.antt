@@ -1,5 +1,5 @@
 -- What gives a value that no expression computes.
-use Rattle.std.specs.Prelude.{ℕ, List, [], ◌∷◌, drop, Option, Some, None, Result, Ok, Err}
+use Rattle.std.specs.Prelude.{ℕ, List, [], ◌∷◌, drop, length, Option, Some, None, is_some, Result, Ok, if◌then◌else◌}
 use Rattle.std.specs.Option.{option_map}
 use Rattle.source_language.specs.declared.syntax.Question.TheVariants as question
 use Rattle.source_tokens.specs.declared.tokens.Kind.{Kind}
@@ -14,7 +14,7 @@ use Rattle.source_reader.specs.declared.names.Meaning.{Meaning}
 use Rattle.source_reader.specs.declared.names.Meaning.TheVariants as meaning
 use Rattle.source_reader.specs.Cells.{question_of}
 use Rattle.source_reader.specs.Faults.{◌>>=◌}
-use Rattle.source_reader.specs.Names.{Scope, meaning_of}
+use Rattle.source_reader.specs.Names.{Scope, meaning_of, asked_in}
 use Rattle.source_reader.specs.Groups.{own_group_at}
 use Rattle.source_reader.specs.Ranges.{parallel_at}
 use Rattle.source_reader.specs.Tasks.{group_number}
@@ -43,10 +43,10 @@ giver_of (kind.Gathers g) names rest = Some giver.Gathering
 giver_of (kind.Name x) names rest = named_giver (meaning_of x names) rest
 giver_of k names rest = None
 
--- the one whose word, or whose cell, is at the front
+-- the one whose word, or whose cell, is at the front, if it was not asked before
 abbrev pub giver_at : Scope → List Token → Option Giver
 giver_at names [] = None
-giver_at names (t ∷ ts) = giver_of t.kind names ts
+giver_at names (t ∷ ts) = if is_some (asked_in (length (t ∷ ts)) names) then None else giver_of t.kind names ts
 
 -- behind `cancelled`
 abbrev pub cancelled_at : ℕ → List Token → Result (StmtTree × List Token) Fault

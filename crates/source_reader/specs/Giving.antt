@@ -5,12 +5,14 @@ use Rattle.source_tokens.specs.declared.tokens.Token.{Token}
 use Rattle.source_reader.specs.declared.faults.Fault.{Fault}
 use Rattle.source_reader.specs.declared.faults.Wrong.TheVariants as wrong
 use Rattle.source_reader.specs.declared.givers.Giver.{Giver}
+use Rattle.source_reader.specs.declared.givers.Giver.TheVariants as giver
+use Rattle.source_reader.specs.declared.names.TaskGroup.{TaskGroup}
 use Rattle.source_reader.specs.declared.tasks.Reach.TheVariants as reach
 use Rattle.source_reader.specs.Faults.{◌>>=◌, fault_at}
 use Rattle.source_reader.specs.Givers.{giver_at}
 use Rattle.source_reader.specs.Halving.{taken}
-use Rattle.source_reader.specs.Names.{Scope, Functions, WithName, WithInline, Waited, Inner, Gathering, new_number}
-use Rattle.source_reader.specs.Returns.{behind, return_at}
+use Rattle.source_reader.specs.Names.{Scope, Functions, WithName, WithInline, Waited, Inner, Gathering, Asked, new_number}
+use Rattle.source_reader.specs.Returns.{return_at}
 use Rattle.source_reader.specs.Simple.{ReadStmt, given_at}
 use Rattle.source_reader.specs.Tasks.{leaving}
 use Rattle.source_reader.specs.Trees.{ThenTree, ContinueTree}
@@ -23,6 +25,7 @@ gathers_in (WithInline x f others) = gathers_in others
 gathers_in (Waited g others) = gathers_in others
 gathers_in (Inner is_loop others) = gathers_in others
 gathers_in (Gathering g others) = Some g
+gathers_in (Asked left b v others) = gathers_in others
 
 abbrev pub one_loop_more : ℕ → List Token → Result ℕ Fault
 one_loop_more k ts = if nat_lt k 240 then Ok (k + 1) else Err (fault_at ts wrong.TooLong)
@@ -35,10 +38,17 @@ loops_in (WithInline x f others) ts = loops_in others ts
 loops_in (Waited g others) ts = loops_in others ts
 loops_in (Inner is_loop others) ts = loops_in others ts >>= λ k. if is_loop then one_loop_more k ts else Ok k
 loops_in (Gathering g others) ts = Ok 0
+loops_in (Asked left b v others) ts = loops_in others ts
 
-abbrev pub behind_given : Option Giver → Scope → Scope
-behind_given None names = names
-behind_given (Some g) names = behind g names
+-- the group that is waited for, if that gives the value
+abbrev pub group_given : Option Giver → Option TaskGroup
+group_given (Some (giver.Wait g)) = Some g
+group_given o = None
+
+-- what is seen behind a wait for a group, if there is one
+abbrev pub behind_group : Option TaskGroup → Scope → Scope
+behind_group None names = names
+behind_group (Some g) names = Waited g names
 
 -- Behind `give`: the value goes to one more variable and into the total, tasks that were not waited for are waited for, and the next number comes.
 abbrev pub give_in : Gathers → Scope → List Token → ReadStmt
@@ -46,7 +56,7 @@ give_in g names ts = do
   k ← loops_in names ts
   n ← new_number names ts
   v ← given_at names n ts
-  Ok (ThenTree v.0 (ThenTree (taken g n) (leaving reach.Function (behind_given (giver_at names ts) names) (ContinueTree k))), v.1)
+  Ok (ThenTree v.0 (ThenTree (taken g n) (leaving reach.Function (behind_group (group_given (giver_at names ts)) names) (ContinueTree k))), v.1)
 
 abbrev pub give_of : Option Gathers → Scope → (ts rest : List Token) → ReadStmt
 give_of None names ts rest = Err (fault_at ts wrong.NotGathered)

@@ -11,7 +11,7 @@ use Rattle.source_reader.specs.declared.names.Meaning.TheVariants as meaning
 use Rattle.source_reader.specs.Faults.{◌>>=◌, fault_at}
 use Rattle.source_reader.specs.Functions.{is_this}
 use Rattle.source_reader.specs.Lines.{free_name}
-use Rattle.source_reader.specs.Names.{Scope, Functions, WithName, WithInline, Waited, Inner, Gathering}
+use Rattle.source_reader.specs.Names.{Scope, Functions, WithName, WithInline, Waited, Inner, Gathering, Asked}
 
 abbrev pub key_numbered : ℤ → Option ℕ
 key_numbered (pos n) = if nat_lt n KEYS then Some n else None
@@ -46,6 +46,7 @@ has_key k (WithInline x f others) = has_key k others
 has_key k (Waited g others) = has_key k others
 has_key k (Inner is_loop others) = has_key k others
 has_key k (Gathering g others) = has_key k others
+has_key k (Asked left b v others) = has_key k others
 
 -- whether one of these tokens is `@` before that key
 abbrev pub chooses : ℕ → List Token → Bool

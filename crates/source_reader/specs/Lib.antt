@@ -18,6 +18,8 @@ pub mod Ranges
 pub mod Groups
 pub mod Cells
 pub mod Givers
+pub mod Extents
+pub mod Ahead
 pub mod Simple
 pub mod Returns
 pub mod Counting

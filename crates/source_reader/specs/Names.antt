@@ -17,7 +17,7 @@ use Rattle.source_reader.specs.declared.names.Names.TheVariants as names
 use Rattle.source_reader.specs.declared.headers.Header.{Header}
 use Rattle.source_reader.specs.Trees.{InlineTree, inline_tree_of}
 
--- `Waited` stands behind a wait for the task of a group, `Inner` is the beginning of a block inside the function's own, and `Gathering` that of the body of a parallel loop, which is its function's own.
+-- `Waited` stands behind a wait for the task of a group, `Inner` is the beginning of a block inside the function's own, and `Gathering` that of the body of a parallel loop, which is its function's own. `Asked` stands behind what gives a value inside another one: how many tokens are left where it begins, and behind it, and the variable that has its value.
 pub data Scope : Type 0 where
   Functions : List Header → Scope
   WithName : ℕ → Meaning → Scope → Scope
@@ -25,6 +25,7 @@ pub data Scope : Type 0 where
   Waited : TaskGroup → Scope → Scope
   Inner : (is_loop : Bool) → Scope → Scope
   Gathering : Gathers → Scope → Scope
+  Asked : (left behind variable : ℕ) → Scope → Scope
 
 abbrev pub names_of : Names → Scope
 names_of (names.Functions hs) = Functions hs.now
@@ -33,6 +34,7 @@ names_of (names.Inline' x f p others) = WithInline x (inline_tree_of f.now) (nam
 names_of (names.Waited' g p others) = Waited g (names_of others)
 names_of (names.Inner' is_loop p others) = Inner is_loop (names_of others)
 names_of (names.Gathering' g p others) = Gathering g (names_of others)
+names_of (names.Asked' left behind v p others) = Asked left behind v (names_of others)
 
 abbrev pub is_same_group : TaskGroup → TaskGroup → Bool
 is_same_group task_group.First task_group.First = true
@@ -61,6 +63,7 @@ meaning_of x (WithInline y f others) = if y == x then Some meaning.Inline else m
 meaning_of x (Waited g others) = option_map (awaited g) (meaning_of x others)
 meaning_of x (Inner is_loop others) = option_map outer (meaning_of x others)
 meaning_of x (Gathering g others) = meaning_of x others
+meaning_of x (Asked left b v others) = meaning_of x others
 
 -- the inline function of that name
 abbrev pub inline_of : ℕ → Scope → Option InlineTree
@@ -70,6 +73,7 @@ inline_of x (WithInline y f others) = if y == x then Some f else inline_of x oth
 inline_of x (Waited g others) = inline_of x others
 inline_of x (Inner is_loop others) = inline_of x others
 inline_of x (Gathering g others) = inline_of x others
+inline_of x (Asked left b v others) = inline_of x others
 
 -- the functions of the source, in its order
 abbrev pub functions_in : Scope → List Header
@@ -79,6 +83,17 @@ functions_in (WithInline x f others) = functions_in others
 functions_in (Waited g others) = functions_in others
 functions_in (Inner is_loop others) = functions_in others
 functions_in (Gathering g others) = functions_in others
+functions_in (Asked left b v others) = functions_in others
+
+-- what was asked where so many tokens are left: its variable, and how many are left behind it
+abbrev pub asked_in : (left : ℕ) → Scope → Option (ℕ × ℕ)
+asked_in n (Functions hs) = None
+asked_in n (WithName x m others) = asked_in n others
+asked_in n (WithInline x f others) = asked_in n others
+asked_in n (Waited g others) = asked_in n others
+asked_in n (Inner is_loop others) = asked_in n others
+asked_in n (Gathering g others) = asked_in n others
+asked_in n (Asked left b v others) = if left == n then Some (v, b) else asked_in n others
 
 abbrev pub number_after : ℕ → ℕ
 number_after x = if nat_lt x 255 then x + 1 else 255
@@ -111,3 +126,4 @@ new_number (WithInline x f others) ts = Ok 0
 new_number (Waited g others) ts = new_number others ts
 new_number (Inner is_loop others) ts = new_number others ts
 new_number (Gathering g others) ts = Ok OTHER
+new_number (Asked left b v others) ts = number_behind v ts

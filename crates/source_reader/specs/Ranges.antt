@@ -44,12 +44,16 @@ abbrev pub is_begin : Kind → Bool
 is_begin kind.Begin = true
 is_begin k = false
 
--- what follows the end of a block in which so many others have begun
-abbrev pub after_block : (inner : ℕ) → List Token → Result (List Token) Fault
-after_block n [] = unexpected []
+-- what follows the end of a block in which so many others have begun, if it ends
+abbrev pub after_block : (inner : ℕ) → List Token → Option (List Token)
+after_block n [] = None
 after_block n (t ∷ ts) =
     if is_begin t.kind then after_block (n + 1) ts
-    else (if is_end t.kind then (if n == 0 then Ok ts else after_block (n - 1) ts) else after_block n ts)
+    else (if is_end t.kind then (if n == 0 then Some ts else after_block (n - 1) ts) else after_block n ts)
+
+abbrev pub ends_there : Option (List Token) → Result (List Token) Fault
+ends_there (Some ts) = Ok ts
+ends_there None = unexpected []
 
 -- Behind the word of a parallel loop: a call of its function with both ends, whose value goes to the variable. The function is known by the place of the word; the block is read with it.
 abbrev pub parallel_at : Scope → (x : ℕ) → List Token → Result (StmtTree × List Token) Fault
@@ -61,6 +65,6 @@ parallel_at names x ts = do
   high ← argument_at names to
   grain ← grain_at names high.1
   inside ← after_begin grain.1
-  rest ← after_block 0 inside
+  rest ← ends_there (after_block 0 inside)
   f ← callee_titled (title.Gathering (length ts)) names ts
   Ok (made (run.Call (Some x)) f.number (record { first = low.0; second = high.0 }), rest)

@@ -1,5 +1,5 @@
 -- Statements and blocks.
-use Rattle.std.specs.Prelude.{ℕ, zero, suc, Bool, true, false, List, [], ◌∷◌, drop, Option, Some, None, Result, Ok, Err, if◌then◌else◌}
+use Rattle.std.specs.Prelude.{ℕ, zero, suc, Bool, true, false, List, [], ◌∷◌, drop, length, Option, Some, None, Result, Ok, Err, if◌then◌else◌}
 use Rattle.source_tokens.specs.declared.tokens.Kind.{Kind}
 use Rattle.source_tokens.specs.declared.tokens.Kind.TheVariants as kind
 use Rattle.source_tokens.specs.declared.tokens.Token.{Token}
@@ -10,18 +10,18 @@ use Rattle.source_reader.specs.Trees.{StmtTree, SkipTree, ThenTree, IfTree, Loop
 use Rattle.source_reader.specs.declared.names.Meaning.{Meaning}
 use Rattle.source_reader.specs.declared.names.Meaning.TheVariants as meaning
 use Rattle.source_reader.specs.declared.names.Task.{Task}
-use Rattle.source_reader.specs.declared.names.TaskGroup.{TaskGroup}
 use Rattle.source_reader.specs.declared.tasks.Reach.TheVariants as reach
-use Rattle.source_reader.specs.Names.{Scope, WithName, Waited, Inner, meaning_of, new_number}
+use Rattle.source_reader.specs.Names.{Scope, WithName, Waited, Inner, Asked, meaning_of, new_number}
 use Rattle.source_reader.specs.Tasks.{free_group, waited, leaving, block_end}
-use Rattle.source_reader.specs.Waits.{next_wait}
+use Rattle.source_reader.specs.Ahead.{next_wait, next_ask}
+use Rattle.source_reader.specs.Givers.{giver_at}
 use Rattle.source_reader.specs.Lines.{leaves, after_begin, after_line_ends, ended, after_end, let_name}
 use Rattle.source_reader.specs.declared.calls.Run.TheVariants as run
 use Rattle.source_reader.specs.Calls.{run_at, is_spawn}
 use Rattle.source_reader.specs.Groups.{gathered, group_at, into_at, cancel_at}
-use Rattle.source_reader.specs.Simple.{ReadStmt, condition_at, count_at, let_at, assigned_at, wait_at, sync_at, region_at}
+use Rattle.source_reader.specs.Simple.{ReadStmt, given_at, condition_at, count_at, let_at, assigned_at, wait_at, sync_at, region_at}
 use Rattle.source_reader.specs.Counting.{counting_loop}
-use Rattle.source_reader.specs.Giving.{give_at, return_in}
+use Rattle.source_reader.specs.Giving.{group_given, behind_group, give_at, return_in}
 use Rattle.source_reader.specs.Marks.{unexpected}
 
 -- What is read: `{ .. }`; what follows `{`, where what comes may never be reached; a statement; or what may follow the block of an `if`. Each says whether there is a loop around it.
@@ -60,11 +60,6 @@ with_name (Some x) names ts = do
   m ← declared_meaning names n ts
   Ok (WithName x m names)
 
--- the names behind a wait for a group, if it is one
-abbrev pub behind_line : Option TaskGroup → Scope → Scope
-behind_line None names = names
-behind_line (Some g) names = Waited g names
-
 abbrev pub line_and_rest : Reader → (names behind : Scope) → Bool → List Token → ReadStmt
 line_and_rest next names behind in_loop ts = do
   first ← next names (Line in_loop) ts
@@ -79,8 +74,20 @@ wait_and_rest next names in_loop t ts = do
   others ← next (Waited t.group names) (Rest in_loop false) ts
   Ok (ThenTree (waited t) others.0, others.1)
 
+-- What gives a value goes to one more variable, and then comes the same line, where that stands for it.
+abbrev pub ask_and_rest : Reader → Scope → Bool → (asked ts : List Token) → ReadStmt
+ask_and_rest next names in_loop asked ts = do
+  n ← new_number names ts
+  c ← given_at names n asked
+  others ← next (Asked (length asked) (length c.1) n (behind_group (group_given (giver_at names asked)) names)) (Rest in_loop false) ts
+  Ok (ThenTree c.0 others.0, others.1)
+
+abbrev pub ask_or_line : Reader → Scope → Bool → Option (List Token) → List Token → ReadStmt
+ask_or_line next names in_loop None ts = line_and_rest next names (behind_group (gathered names ts) names) in_loop ts
+ask_or_line next names in_loop (Some asked) ts = ask_and_rest next names in_loop asked ts
+
 abbrev pub first_line : Reader → Scope → Bool → Option Task → List Token → ReadStmt
-first_line next names in_loop None ts = line_and_rest next names (behind_line (gathered names ts) names) in_loop ts
+first_line next names in_loop None ts = ask_or_line next names in_loop (next_ask names ts) ts
 first_line next names in_loop (Some t) ts = wait_and_rest next names in_loop t ts
 
 abbrev pub rest_of : Reader → Scope → (in_loop left : Bool) → Option (List Token) → List Token → ReadStmt

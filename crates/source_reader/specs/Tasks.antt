@@ -11,7 +11,7 @@ use Rattle.source_reader.specs.declared.names.TaskGroup.TheVariants as task_grou
 use Rattle.source_reader.specs.declared.tasks.Reach.{Reach}
 use Rattle.source_reader.specs.declared.tasks.Reach.TheVariants as reach
 use Rattle.source_reader.specs.Faults.{fault_at}
-use Rattle.source_reader.specs.Names.{Scope, Functions, WithName, WithInline, Waited, Inner, Gathering, is_same_group}
+use Rattle.source_reader.specs.Names.{Scope, Functions, WithName, WithInline, Waited, Inner, Gathering, Asked, is_same_group}
 use Rattle.source_reader.specs.Trees.{StmtTree, ThenTree, WaitTree, SkipTree}
 
 -- the number of a group; 0 is that of calls
@@ -42,6 +42,7 @@ task_in r g (WithInline x f others) = task_in r g others
 task_in r g (Waited h others) = if is_same_group h g then None else task_in r g others
 task_in r g (Inner is_loop others) = if ends_at r is_loop then None else task_in r g others
 task_in r g (Gathering gathers others) = task_in r g others
+task_in r g (Asked left b v others) = task_in r g others
 
 -- the first of those, by their groups
 abbrev pub pending : Reach → Scope → Option Task
@@ -71,6 +72,7 @@ is_outermost (WithInline x f others) = is_outermost others
 is_outermost (Waited g others) = is_outermost others
 is_outermost (Inner is_loop others) = false
 is_outermost (Gathering g others) = false
+is_outermost (Asked left b v others) = is_outermost others
 
 -- a wait for a task, whose value goes to its variable
 abbrev pub waited : Task → StmtTree

@@ -1,5 +1,5 @@
 -- Values: operators of nine levels between numbers, variables and values in parentheses.
-use Rattle.std.specs.Prelude.{ℕ, zero, suc, ◌+◌, ◌==◌, ◌||◌, nat_lt, pos, negsuc, int_le, Bool, true, List, [], ◌∷◌, ◌++◌, length, drop, Option, Some, None, Result, Ok, Err, if◌then◌else◌}
+use Rattle.std.specs.Prelude.{ℕ, zero, suc, ◌+◌, ◌-◌, ◌==◌, ◌||◌, nat_lt, pos, negsuc, int_le, Bool, true, List, [], ◌∷◌, ◌++◌, length, drop, Option, Some, None, Result, Ok, Err, if◌then◌else◌}
 use Rattle.std.specs.Ordering.{int_eq}
 use Rattle.source_tokens.specs.declared.tokens.Sign.{Sign}
 use Rattle.source_tokens.specs.declared.tokens.Sign.TheVariants as sign
@@ -13,7 +13,7 @@ use Rattle.source_reader.specs.Faults.{◌>>=◌, fault_at}
 use Rattle.source_reader.specs.Trees.{ExprTree, ValueTree, InlineTree, Constant, Variable, SlotTree, WidthTree, NumberTree, TruthTree, NotTree}
 use Rattle.source_reader.specs.declared.names.Meaning.{Meaning}
 use Rattle.source_reader.specs.declared.names.Meaning.TheVariants as meaning
-use Rattle.source_reader.specs.Names.{Scope, meaning_of, inline_of}
+use Rattle.source_reader.specs.Names.{Scope, meaning_of, inline_of, asked_in}
 use Rattle.source_reader.specs.Waits.{awaited_at}
 use Rattle.source_reader.specs.Joining.{level_of, test_in, minus, complement, joined}
 use Rattle.source_reader.specs.Marks.{unexpected, after_open, after_close, is_close, wrong_count, after_last, before_next}
@@ -138,9 +138,14 @@ single_of next names kind.Width ts rest = without_arguments WidthTree rest
 single_of next names kind.Wait ts rest = awaited_value names rest
 single_of next names k ts rest = unexpected ts
 
+-- What was asked before is a variable.
+abbrev pub asked_or : Option (ℕ × ℕ) → List Token → Read → Read
+asked_or (Some a) ts else_read = Ok (NumberTree (Variable a.0), drop (length ts - a.1) ts)
+asked_or None ts else_read = else_read
+
 abbrev pub single : (Wanted → List Token → Read) → Scope → List Token → Read
 single next names [] = unexpected []
-single next names (t ∷ ts) = single_of next names t.kind (t ∷ ts) ts
+single next names (t ∷ ts) = asked_or (asked_in (length (t ∷ ts)) names) (t ∷ ts) (single_of next names t.kind (t ∷ ts) ts)
 
 abbrev pub step : (Wanted → List Token → Read) → Scope → Wanted → List Token → Read
 step next names (Level l) ts = if nat_lt l 9 then (next (Level (l + 1)) ts >>= λ first. next (More l first.0) first.1) else next Single ts

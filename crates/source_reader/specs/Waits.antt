@@ -1,6 +1,5 @@
--- What lines wait for.
+-- Tasks that were waited for, and those that were not.
 use Rattle.std.specs.Prelude.{ℕ, Bool, true, false, not, List, [], ◌∷◌, Option, Some, None, Result, Ok, Err, if◌then◌else◌}
-use Rattle.source_tokens.specs.declared.tokens.Sign.TheVariants as sign
 use Rattle.source_tokens.specs.declared.tokens.Kind.{Kind}
 use Rattle.source_tokens.specs.declared.tokens.Kind.TheVariants as kind
 use Rattle.source_tokens.specs.declared.tokens.Token.{Token}
@@ -9,12 +8,9 @@ use Rattle.source_reader.specs.declared.faults.Wrong.TheVariants as wrong
 use Rattle.source_reader.specs.declared.names.Meaning.{Meaning}
 use Rattle.source_reader.specs.declared.names.Meaning.TheVariants as meaning
 use Rattle.source_reader.specs.declared.names.Task.{Task}
-use Rattle.source_reader.specs.declared.tasks.Reach.TheVariants as reach
-use Rattle.source_reader.specs.declared.waits.Ahead.{Ahead}
-use Rattle.source_reader.specs.declared.waits.Ahead.TheVariants as ahead
 use Rattle.source_reader.specs.Faults.{fault_at}
 use Rattle.source_reader.specs.Names.{Scope, meaning_of}
-use Rattle.source_reader.specs.Tasks.{if_task, pending_task}
+use Rattle.source_reader.specs.Tasks.{if_task}
 
 -- the task of the name at the front, if it may be waited for before the line
 abbrev pub named_task : Option Meaning → Option Task
@@ -33,46 +29,6 @@ task_of k names = None
 abbrev pub task_at : Scope → List Token → Option Task
 task_at names [] = None
 task_at names (t ∷ ts) = task_of t.kind names
-
-abbrev pub ahead_if : Option Task → Ahead
-ahead_if (Some t) = ahead.Waits t
-ahead_if None = ahead.GoesOn
-
--- What stands behind `&&` or `||` may be skipped, and a task that is read must have been waited for before.
-abbrev pub ahead_of : Scope → Kind → List Token → Ahead
-ahead_of names kind.Wait ts = ahead_if (task_at names ts)
-ahead_of names (kind.Name x) ts = if is_unread (meaning_of x names) then ahead.Ends else ahead.GoesOn
-ahead_of names (kind.Sign sign.And) ts = ahead.Ends
-ahead_of names (kind.Sign sign.Or) ts = ahead.Ends
-ahead_of names kind.LineEnd ts = ahead.Ends
-ahead_of names kind.Begin ts = ahead.Ends
-ahead_of names kind.End ts = ahead.Ends
-ahead_of names k ts = ahead.GoesOn
-
-abbrev pub wait_or : Ahead → Option Task → Option Task
-wait_or (ahead.Waits t) later = Some t
-wait_or ahead.Ends later = None
-wait_or ahead.GoesOn later = later
-
--- the first task that a line waits for
-abbrev pub wait_in : Scope → List Token → Option Task
-wait_in names [] = None
-wait_in names (t ∷ ts) = wait_or (ahead_of names t.kind ts) (wait_in names ts)
-
-abbrev pub is_cell : Option Meaning → Bool
-is_cell (Some (meaning.Cell k)) = true
-is_cell m = false
-
-abbrev pub next_wait_of : Kind → Scope → List Token → Option Task
-next_wait_of kind.Sync names ts = pending_task reach.Block names
-next_wait_of kind.While names ts = None
-next_wait_of (kind.Name x) names ts = if is_cell (meaning_of x names) then None else wait_in names ts
-next_wait_of k names ts = wait_in names ts
-
--- The task that is waited for before the statement at the front is read. The condition of a loop is none of these: it is computed again. Nor is what a cell is given: the cell is read before.
-abbrev pub next_wait : Scope → List Token → Option Task
-next_wait names [] = None
-next_wait names (t ∷ ts) = next_wait_of t.kind names (t ∷ ts)
 
 -- The variable of a task, whose name is the first of the tokens. The wait was done before the statement, unless it may not be done here.
 abbrev pub awaited_variable : Meaning → List Token → Result ℕ Fault

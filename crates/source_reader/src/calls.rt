@@ -34,6 +34,7 @@ fn callee_of(title: Title, names: &Names) -> Option<Callee>
         Names::Waited(_, others) => callee_of(title, others),
         Names::Inner(_, others) => callee_of(title, others),
         Names::Gathering(_, others) => callee_of(title, others),
+        Names::Asked(_, _, _, others) => callee_of(title, others),
     }
 }
 

@@ -10,7 +10,7 @@ use crate::cells::question_of;
 use crate::faults::ReadError;
 use crate::groups::own_group_at;
 use crate::marks::{after_close, after_first, after_open};
-use crate::names::{Meaning, Names, TaskGroup, meaning_of};
+use crate::names::{Meaning, Names, TaskGroup, asked_in, meaning_of};
 use crate::ranges::parallel_at;
 use crate::tasks::group_of;
 use job_language::Key;
@@ -63,11 +63,14 @@ fn named_giver(name: usize, names: &Names, tokens: &[Token]) -> Option<Giver>
     }
 }
 
-/// The one whose word, or whose cell, is at the front.
+/// The one whose word, or whose cell, is at the front, if it was not asked before.
 pub(crate) fn giver_at(names: &Names, tokens: &[Token]) -> Option<Giver>
     ensures { result ≡ giver_at (names_of names.now) tokens.now }
 {
     let (first, rest) = tokens.split_first()?;
+    if asked_in(tokens.len(), names).is_some() {
+        return None;
+    }
     match first.kind {
         Kind::Call => Some(Giver::Call),
         Kind::Isolate => Some(Giver::Isolate),

@@ -1,7 +1,7 @@
 // What leaves the body of a parallel loop, for one number of its range.
 ghost use Rattle.std.specs.Prelude.{◌≡◌, IfOk, Some};
 ghost use Rattle.source_reader.specs.Faults.{Gives};
-ghost use Rattle.source_reader.specs.Giving.{gathers_in, one_loop_more, loops_in, behind_given, give_in, give_at, return_in};
+ghost use Rattle.source_reader.specs.Giving.{gathers_in, one_loop_more, loops_in, group_given, behind_group, give_in, give_at, return_in};
 ghost use Rattle.source_reader.specs.Names.{names_of};
 ghost use Rattle.source_reader.specs.Tasks.{leaving};
 ghost use Rattle.source_reader.specs.Trees.{stmt_tree_of, ContinueTree};
@@ -10,7 +10,7 @@ ghost use Rattle.source_reader.specs.declared.tasks.Reach.TheVariants as reach;
 use crate::faults::{ReadError, Wrong, fault_at};
 use crate::givers::{Giver, giver_at};
 use crate::halving::taken;
-use crate::names::{Names, new_number};
+use crate::names::{Names, TaskGroup, new_number};
 use crate::returns::return_at;
 use crate::simple::given_at;
 use crate::tasks::{Reach, leaving};
@@ -30,6 +30,7 @@ fn gathers_in(names: &Names) -> Option<Gathers>
         Names::Waited(_, others) => gathers_in(others),
         Names::Inner(_, others) => gathers_in(others),
         Names::Gathering(gathers, _) => Some(*gathers),
+        Names::Asked(_, _, _, others) => gathers_in(others),
     }
 }
 
@@ -61,26 +62,37 @@ fn loops_in(names: &Names, tokens: &[Token]) -> Result<u8, ReadError>
             }
         }
         Names::Gathering(_, _) => Ok(0),
+        Names::Asked(_, _, _, others) => loops_in(others, tokens),
     }
 }
 
-/// To the next number, behind what gives the value, and waits for all tasks.
+/// The group that is waited for, if that gives the value.
+pub(crate) fn group_given(giver: Option<Giver>) -> Option<TaskGroup>
+    ensures { result ≡ group_given giver }
+{
+    match giver {
+        Some(Giver::Wait(group)) => Some(group),
+        _ => None,
+    }
+}
+
+/// To the next number, behind a wait for a group, if there is one, and waits for all tasks.
 fn next_behind(
     alloc: Global,
-    giver: Option<Giver>,
+    group: Option<TaskGroup>,
     names: &Names,
     loops: u8,
 ) -> Result<Stmt, AllocError>
     ensures { IfOk result (λ s. stmt_tree_of s
-        ≡ leaving reach.Function (behind_given giver (names_of names.now)) (ContinueTree loops)) }
+        ≡ leaving reach.Function (behind_group group (names_of names.now)) (ContinueTree loops)) }
 {
     let next = Stmt::Continue(loops);
-    match giver {
-        Some(Giver::Wait(group)) => {
+    match group {
+        Some(group) => {
             let behind = Names::Waited(group, &*names);
             leaving(alloc, Reach::Function, &behind, next)
         }
-        _ => leaving(alloc, Reach::Function, names, next),
+        None => leaving(alloc, Reach::Function, names, next),
     }
 }
 
@@ -97,7 +109,8 @@ fn give_in<'a>(
     let loops = loops_in(names, tokens)?;
     let number = new_number(names, tokens)?;
     let (value, after) = given_at(alloc, names, number, tokens)?;
-    let next = next_behind(alloc, giver_at(names, tokens), names, loops)?;
+    let group = group_given(giver_at(names, tokens));
+    let next = next_behind(alloc, group, names, loops)?;
     let taken = taken(alloc, gathers, number)?;
     let last = then(alloc, taken, next)?;
     Ok((then(alloc, value, last)?, after))

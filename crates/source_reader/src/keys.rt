@@ -74,6 +74,7 @@ fn has_key(key: Key, names: &Names) -> bool
         Names::Waited(_, others) => has_key(key, others),
         Names::Inner(_, others) => has_key(key, others),
         Names::Gathering(_, others) => has_key(key, others),
+        Names::Asked(_, _, _, others) => has_key(key, others),
     }
 }
 

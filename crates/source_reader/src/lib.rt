@@ -1,10 +1,12 @@
 //! Sources of the job language, read as trees of its core.
 #![tactic(auto)]
 
+mod ahead;
 mod calls;
 mod cells;
 mod constants;
 mod declaring;
+mod extents;
 mod faults;
 mod folding;
 mod functions;

@@ -3,7 +3,7 @@ ghost use Rattle.std.specs.Prelude.{◌≡◌};
 ghost use Rattle.std.specs.Option.{option_map};
 ghost use Rattle.source_reader.specs.Faults.{Gives};
 ghost use Rattle.source_reader.specs.Trees.{inline_tree_of};
-ghost use Rattle.source_reader.specs.Names.{names_of, is_same_group, behind_wait, awaited, outer, meaning_of, inline_of, number_after, number_behind, number_past, number_next, new_number};
+ghost use Rattle.source_reader.specs.Names.{names_of, is_same_group, behind_wait, awaited, outer, meaning_of, inline_of, asked_in, number_after, number_behind, number_past, number_next, new_number};
 
 use crate::faults::{ReadError, Wrong, fault_at};
 use crate::halving::OTHER;
@@ -64,6 +64,9 @@ pub(crate) enum Names<'a> {
     Inner(bool, &'a Names<'a>),
     /// The names at the beginning of the body of a parallel loop.
     Gathering(Gathers, &'a Names<'a>),
+    /// The names behind what gives a value inside another one: how many tokens are left where it begins, and behind it, and
+    /// the variable that has its value.
+    Asked(usize, usize, u8, &'a Names<'a>),
 }
 
 pub(crate) fn is_same_group(a: TaskGroup, b: TaskGroup) -> bool
@@ -143,6 +146,7 @@ pub(crate) fn meaning_of(name: usize, names: &Names) -> Option<Meaning>
             None => None,
         },
         Names::Gathering(_, others) => meaning_of(name, others),
+        Names::Asked(_, _, _, others) => meaning_of(name, others),
     }
 }
 
@@ -163,6 +167,28 @@ pub(crate) fn inline_of<'a>(name: usize, names: &'a Names) -> Option<&'a Inline>
         Names::Waited(_, others) => inline_of(name, others),
         Names::Inner(_, others) => inline_of(name, others),
         Names::Gathering(_, others) => inline_of(name, others),
+        Names::Asked(_, _, _, others) => inline_of(name, others),
+    }
+}
+
+/// What was asked where so many tokens are left: its variable, and how many are left behind it.
+pub(crate) fn asked_in(left: usize, names: &Names) -> Option<(u8, usize)>
+    ensures { result ≡ asked_in left (names_of names.now) }
+{
+    match names {
+        Names::Functions(_) => None,
+        Names::Name(_, _, others) => asked_in(left, others),
+        Names::Inline(_, _, others) => asked_in(left, others),
+        Names::Waited(_, others) => asked_in(left, others),
+        Names::Inner(_, others) => asked_in(left, others),
+        Names::Gathering(_, others) => asked_in(left, others),
+        Names::Asked(first, behind, number, others) => {
+            if *first == left {
+                Some((*number, *behind))
+            } else {
+                asked_in(left, others)
+            }
+        }
     }
 }
 
@@ -223,5 +249,6 @@ pub(crate) fn new_number(names: &Names, tokens: &[Token]) -> Result<u8, ReadErro
         Names::Waited(_, others) => new_number(others, tokens),
         Names::Inner(_, others) => new_number(others, tokens),
         Names::Gathering(_, _) => Ok(OTHER),
+        Names::Asked(_, _, number, _) => number_behind(*number, tokens),
     }
 }

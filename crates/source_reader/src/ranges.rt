@@ -1,8 +1,8 @@
 // The heads of parallel loops: an index, its range, and how many numbers one task takes by itself.
-ghost use Rattle.std.specs.Prelude.{◌≡◌};
+ghost use Rattle.std.specs.Prelude.{◌≡◌, option_map};
 ghost use Rattle.source_reader.specs.Faults.{Gives};
 ghost use Rattle.source_reader.specs.Names.{names_of};
-ghost use Rattle.source_reader.specs.Ranges.{is_grain_of, is_grain, from_one, grain_in, grain_at, is_begin, after_block, parallel_at};
+ghost use Rattle.source_reader.specs.Ranges.{is_grain_of, is_grain, from_one, grain_in, grain_at, is_begin, after_block, ends_there, parallel_at};
 ghost use Rattle.source_reader.specs.Trees.{stmt_tree_of};
 
 use crate::calls::{Arguments, Run, argument_at, callee_titled, made};
@@ -88,9 +88,9 @@ pub(crate) fn is_begin(kind: Kind) -> bool
     }
 }
 
-/// What follows the end of the block in which these tokens are.
-fn after_block(tokens: &[Token]) -> Result<&[Token], ReadError>
-    ensures { Gives (λ ts. ts.now) result (after_block 0 tokens.now) }
+/// What follows the end of the block in which these tokens are, if it ends.
+pub(crate) fn after_block(tokens: &[Token]) -> Option<&[Token]>
+    ensures { option_map (λ ts. ts.now) result ≡ after_block 0 tokens.now }
 {
     let mut left = tokens;
     let mut inner = 0usize;
@@ -100,12 +100,22 @@ fn after_block(tokens: &[Token]) -> Result<&[Token], ReadError>
             inner += 1;
         } else if is_end(first.kind) {
             if inner == 0 {
-                return Ok(rest);
+                return Some(rest);
             }
             inner -= 1;
         }
     }
-    Err(fault_at(&[], Wrong::Unexpected))
+    None
+}
+
+/// The same, where the block must end.
+fn behind_block(tokens: &[Token]) -> Result<&[Token], ReadError>
+    ensures { Gives (λ ts. ts.now) result (ends_there (after_block 0 tokens.now)) }
+{
+    match after_block(tokens) {
+        Some(rest) => Ok(rest),
+        None => Err(fault_at(&[], Wrong::Unexpected)),
+    }
 }
 
 /// A parallel loop, behind its word: a call of its function, whose value goes to the variable. The block is read with
@@ -126,7 +136,7 @@ pub(crate) fn parallel_at<'a>(
     let (second, rest) = argument_at(alloc, names, to)?;
     let (_most, rest) = grain_at(alloc, names, rest)?;
     let inside = after_begin(rest)?;
-    let after = after_block(inside)?;
+    let after = behind_block(inside)?;
     let function = callee_titled(Title::Gathering(tokens.len()), names, tokens)?;
     let ends = Arguments { first, second };
     let call = made(alloc, Run::Call(Some(number)), function.number, ends)?;

@@ -3,22 +3,23 @@ ghost use Rattle.std.specs.Prelude.{◌≡◌, false};
 ghost use Rattle.source_reader.specs.Faults.{Gives};
 ghost use Rattle.source_reader.specs.Trees.{stmt_tree_of};
 ghost use Rattle.source_reader.specs.Names.{names_of};
-ghost use Rattle.source_reader.specs.Statements.{is_if, if_in_loop, line_and_rest, for_at, stmt_at, Block, Rest, Line, Otherwise};
+ghost use Rattle.source_reader.specs.Statements.{is_if, if_in_loop, ask_and_rest, line_and_rest, for_at, stmt_at, Block, Rest, Line, Otherwise};
 
+use crate::ahead::{next_ask, next_wait};
 use crate::calls::{Run, run_at};
 use crate::declaring::declared_meaning;
 use crate::faults::{ReadError, Wrong, fault_at};
-use crate::giving::{give_at, return_in};
+use crate::givers::giver_at;
+use crate::giving::{give_at, group_given, return_in};
 use crate::groups::{cancel_at, gathered, group_at, into_at};
 use crate::lines::{after_begin, after_end, after_line_ends, ended, let_name};
 use crate::loops::counting_loop;
 use crate::names::{Meaning, Names, new_number};
 use crate::simple::{
-    Count, assigned_at, condition_at, count_at, let_at, region_at, sync_at, wait_at,
+    Count, assigned_at, condition_at, count_at, given_at, let_at, region_at, sync_at, wait_at,
 };
 use crate::tasks::{Reach, block_end, leaving, waited};
 use crate::trees::{choice, leaves, looped, then};
-use crate::waits::next_wait;
 use source_language::Stmt;
 use source_tokens::{Kind, Token};
 use std::alloc::Global;
@@ -97,17 +98,51 @@ fn rest_at<'a>(
         return Err(fault_at(lines, Wrong::NeverReached));
     }
     match next_wait(names, lines) {
-        None => match gathered(names, lines) {
-            None => lines_at(alloc, names, names, in_loop, fuel - 1, lines),
-            Some(group) => {
-                let behind = Names::Waited(group, &*names);
-                lines_at(alloc, names, &behind, in_loop, fuel - 1, lines)
-            }
+        None => match next_ask(names, lines) {
+            None => match gathered(names, lines) {
+                None => lines_at(alloc, names, names, in_loop, fuel - 1, lines),
+                Some(group) => {
+                    let behind = Names::Waited(group, &*names);
+                    lines_at(alloc, names, &behind, in_loop, fuel - 1, lines)
+                }
+            },
+            Some(asked) => asked_before(alloc, names, in_loop, fuel - 1, asked, lines),
         },
         Some(task) => {
             let behind = Names::Waited(task.group, &*names);
             let (others, after) = rest_at(alloc, &behind, in_loop, false, fuel - 1, lines)?;
             Ok((then(alloc, waited(task), others)?, after))
+        }
+    }
+}
+
+/// What gives a value inside a line goes to one more variable, and then comes the line.
+#[cycle(statements)]
+fn asked_before<'a>(
+    alloc: Global,
+    names: &Names,
+    in_loop: bool,
+    fuel: u16,
+    asked: &[Token],
+    tokens: &'a [Token],
+) -> Result<(Stmt, &'a [Token]), ReadError>
+    ensures { Gives (λ x. (stmt_tree_of x.0, x.1.now)) result
+        (ask_and_rest (stmt_at fuel) (names_of names.now) in_loop asked.now tokens.entry.now) }
+{
+    let number = new_number(names, tokens)?;
+    let (given, behind) = given_at(alloc, names, number, asked)?;
+    let (left, right) = (asked.len(), behind.len());
+    match group_given(giver_at(names, asked)) {
+        Some(group) => {
+            let gathered = Names::Waited(group, &*names);
+            let inner = Names::Asked(left, right, number, &gathered);
+            let (others, after) = rest_at(alloc, &inner, in_loop, false, fuel, tokens)?;
+            Ok((then(alloc, given, others)?, after))
+        }
+        None => {
+            let inner = Names::Asked(left, right, number, &*names);
+            let (others, after) = rest_at(alloc, &inner, in_loop, false, fuel, tokens)?;
+            Ok((then(alloc, given, others)?, after))
         }
     }
 }

@@ -85,6 +85,7 @@ fn task_in(reach: Reach, group: TaskGroup, names: &Names) -> Option<Task>
             }
         }
         Names::Gathering(_, others) => task_in(reach, group, others),
+        Names::Asked(_, _, _, others) => task_in(reach, group, others),
     }
 }
 
@@ -150,6 +151,7 @@ fn is_outermost(names: &Names) -> bool
         Names::Waited(_, others) => is_outermost(others),
         Names::Inner(_, _) => false,
         Names::Gathering(_, _) => false,
+        Names::Asked(_, _, _, others) => is_outermost(others),
     }
 }
 

@@ -1,5 +1,5 @@
 // Values: operators of nine levels between numbers, variables and values in parentheses.
-ghost use Rattle.std.specs.Prelude.{◌≡◌, map};
+ghost use Rattle.std.specs.Prelude.{◌≡◌, ◌-◌, drop, length, map};
 ghost use Rattle.source_reader.specs.Faults.{Gives};
 ghost use Rattle.source_reader.specs.Trees.{tree_of, value_tree_of, inline_tree_of};
 ghost use Rattle.source_reader.specs.Names.{names_of, meaning_of};
@@ -9,7 +9,7 @@ use crate::faults::{ReadError, Wrong, fault_at};
 use crate::inlines::{Inline, given_in, inserted, no_argument};
 use crate::joining::{Value, complement, joined, level_of, minus, opposite};
 use crate::marks::{after_close, after_first, after_last, after_open, before_next, is_close};
-use crate::names::{Meaning, Names, inline_of, meaning_of};
+use crate::names::{Meaning, Names, asked_in, inline_of, meaning_of};
 use crate::waits::awaited_at;
 use source_language::Expr;
 use source_tokens::{Kind, Sign, Token};
@@ -155,6 +155,14 @@ fn more_at<'a>(
     }
 }
 
+/// The tokens where so many are left.
+fn left_behind(tokens: &[Token], left: usize) -> &[Token]
+    ensures { result.now ≡ drop (length tokens.now - left) tokens.now }
+{
+    let gone = tokens.len().saturating_sub(left);
+    tokens.split_at(gone).1
+}
+
 /// A value without operators, or with one before it.
 #[tactic(auto, using(crate::proofs::ValueSteps::value_steps))]
 #[cycle(values)]
@@ -173,6 +181,12 @@ fn single_at<'a>(
     let Some((first, rest)) = tokens.split_first() else {
         return Err(fault_at(tokens, Wrong::Unexpected));
     };
+    if let Some((number, behind)) = asked_in(tokens.len(), names) {
+        return Ok((
+            Value::Number(Expr::Variable(number)),
+            left_behind(tokens, behind),
+        ));
+    }
     match first.kind {
         Kind::Number(n) => Ok((Value::Number(Expr::Number(n)), rest)),
         Kind::Name(name) => match inline_of(name, names) {

@@ -1,13 +1,13 @@
-// What lines wait for.
+// Tasks that were waited for, and those that were not.
 ghost use Rattle.std.specs.Prelude.{◌≡◌};
 ghost use Rattle.source_reader.specs.Faults.{Gives};
 ghost use Rattle.source_reader.specs.Names.{names_of};
-ghost use Rattle.source_reader.specs.Waits.{named_task, is_unread, task_at, ahead_of, wait_in, is_cell, next_wait, awaited_variable, awaited_at};
+ghost use Rattle.source_reader.specs.Waits.{named_task, is_unread, task_at, awaited_variable, awaited_at};
 
 use crate::faults::{ReadError, Wrong, fault_at};
 use crate::names::{Meaning, Names, Task, meaning_of};
-use crate::tasks::{Reach, if_task, pending_task};
-use source_tokens::{Kind, Sign, Token};
+use crate::tasks::if_task;
+use source_tokens::{Kind, Token};
 
 fn named_task(meaning: Option<Meaning>) -> Option<Task>
     ensures { result ≡ named_task meaning }
@@ -19,7 +19,7 @@ fn named_task(meaning: Option<Meaning>) -> Option<Task>
 }
 
 /// Whether it is a task that was not waited for.
-fn is_unread(meaning: Option<Meaning>) -> bool
+pub(crate) fn is_unread(meaning: Option<Meaning>) -> bool
     ensures { result ≡ is_unread meaning }
 {
     match meaning {
@@ -30,7 +30,7 @@ fn is_unread(meaning: Option<Meaning>) -> bool
 }
 
 /// The task of the name at the front, if it may be waited for before the line.
-fn task_at(names: &Names, tokens: &[Token]) -> Option<Task>
+pub(crate) fn task_at(names: &Names, tokens: &[Token]) -> Option<Task>
     ensures { result ≡ task_at (names_of names.now) tokens.now }
 {
     match tokens.split_first() {
@@ -39,82 +39,6 @@ fn task_at(names: &Names, tokens: &[Token]) -> Option<Task>
             _ => None,
         },
         None => None,
-    }
-}
-
-/// What a token means for the first wait of its line.
-#[derive(Clone, Copy)]
-pub(crate) enum Ahead {
-    Waits(Task),
-    /// What follows is not waited for before the line.
-    Ends,
-    GoesOn,
-}
-
-fn ahead_of(names: &Names, kind: Kind, rest: &[Token]) -> Ahead
-    ensures { result ≡ ahead_of (names_of names.now) kind rest.now }
-{
-    match kind {
-        Kind::Wait => match task_at(names, rest) {
-            Some(task) => Ahead::Waits(task),
-            None => Ahead::GoesOn,
-        },
-        Kind::Name(name) => {
-            if is_unread(meaning_of(name, names)) {
-                Ahead::Ends
-            } else {
-                Ahead::GoesOn
-            }
-        }
-        Kind::Sign(Sign::And) => Ahead::Ends,
-        Kind::Sign(Sign::Or) => Ahead::Ends,
-        Kind::LineEnd => Ahead::Ends,
-        Kind::Begin => Ahead::Ends,
-        Kind::End => Ahead::Ends,
-        _ => Ahead::GoesOn,
-    }
-}
-
-/// The first task that a line waits for.
-fn wait_in(names: &Names, tokens: &[Token]) -> Option<Task>
-    ensures { result ≡ wait_in (names_of names.now) tokens.now }
-{
-    let mut left = tokens;
-    while let [first, rest @ ..] = left {
-        match ahead_of(names, first.kind, rest) {
-            Ahead::Waits(task) => return Some(task),
-            Ahead::Ends => return None,
-            Ahead::GoesOn => left = rest,
-        }
-    }
-    None
-}
-
-fn is_cell(meaning: Option<Meaning>) -> bool
-    ensures { result ≡ is_cell meaning }
-{
-    match meaning {
-        Some(Meaning::Cell(_)) => true,
-        _ => false,
-    }
-}
-
-/// The task that is waited for before the statement at the front is read.
-pub(crate) fn next_wait(names: &Names, tokens: &[Token]) -> Option<Task>
-    ensures { result ≡ next_wait (names_of names.now) tokens.now }
-{
-    let (first, _) = tokens.split_first()?;
-    match first.kind {
-        Kind::Sync => pending_task(Reach::Block, names),
-        Kind::While => None,
-        Kind::Name(name) => {
-            if is_cell(meaning_of(name, names)) {
-                None
-            } else {
-                wait_in(names, tokens)
-            }
-        }
-        _ => wait_in(names, tokens),
     }
 }
 

@@ -7,6 +7,9 @@ decreases-block_at l = 2 * l.fuel
 abbrev pub decreases-rest_at : goal.decreases-rest_at
 decreases-rest_at l = 2 * l.fuel
 
+abbrev pub decreases-asked_before : goal.decreases-asked_before
+decreases-asked_before l = 2 * l.fuel + 1
+
 abbrev pub decreases-lines_at : goal.decreases-lines_at
 decreases-lines_at l = 2 * l.fuel + 1
 

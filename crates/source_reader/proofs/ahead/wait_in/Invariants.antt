@@ -1,10 +1,10 @@
 use Rattle.std.proofs.Common.{◌≡◌, length}
 use Rattle.source_reader.specs.Names.{names_of}
-use Rattle.source_reader.specs.Waits.{wait_in}
-use Rattle.source_reader.proofs.waits.wait_in.Given as goal
+use Rattle.source_reader.specs.Ahead.{wait_in}
+use Rattle.source_reader.proofs.ahead.wait_in.Given as goal
 
 abbrev pub invariant-loop-left : goal.invariant-loop-left
-invariant-loop-left l = wait_in (names_of l.fn.names) l.left ≡ wait_in (names_of l.fn.names) l.fn.tokens
+invariant-loop-left l = wait_in (names_of l.fn.names) l.fn.alone l.left ≡ wait_in (names_of l.fn.names) l.fn.alone l.fn.tokens
 
 abbrev pub decreases-loop-left : goal.decreases-loop-left
 decreases-loop-left l = length l.left
