@@ -234,11 +234,25 @@ class Sources:
 
     def given(self) -> str:
         """What a variable may be given: a value, or what gives one."""
-        return self.gift() or self.any_value()
+        return self.mixed() or self.any_value()
 
     def returned(self, depth: int) -> str:
         """What may be returned: a number, or what gives one."""
-        return self.gift() or self.value(depth)
+        return self.mixed() or self.value(depth)
+
+    def mixed(self) -> str:
+        """What gives a value, if something is drawn: alone, or one or two inside another value, behind nothing that divides."""
+        if self.draws.random() < 0.5:
+            return self.gift()
+        before, self.may_divide, inlines, self.inlines = self.may_divide, False, self.inlines, []
+        gift, left = self.gift(), self.value(1)
+        again = self.gift() if gift and "{" not in gift and self.draws.random() < 0.5 else ""
+        self.may_divide, self.inlines = before, inlines
+        if not gift:
+            return ""
+        operator = self.draws.choice([it for it in (*ARITHMETIC, *COMPARISONS) if not again or it not in DIVISIONS])
+        right = f"({again})" if again else self.value(1)
+        return self.draws.choice((f"({gift}) {operator} {right}", f"{left} - ({gift}) {operator} {right}", f"-({gift})", f"~({gift}) {operator} {right}"))
 
     def choice(self, indent: int, depth: int, in_loop: bool) -> str:
         """An `if`, with the spaces before it."""

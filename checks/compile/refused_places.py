@@ -224,6 +224,8 @@ REFUSED = (
     ("fn main(n) {\n    return 1 / n + call main(n)\n}\n", "2:20"),
     ("fn main(n) {\n    n = 7 % n - cancelled()\n}\n", "2:17"),
     ("inline fn f(x) = 1 / x\nfn main(n) {\n    return f(n) + call main(n)\n}\n", "3:19"),
+    ("fn main(n) {\n    return 1 + call main(call main(n))\n}\n", "2:26"),
+    ("inline fn f(x) = x\nfn main(n) {\n    return f(call main(n))\n}\n", "3:14"),
     ("fn main(n) {\n    while !cancelled() { }\n}\n", "2:12"),
     ("fn main(n) {\n    if n { } else if cancelled() { }\n}\n", "2:22"),
     ("fn main(n) {\n    return 1 + call f(n)\n}\n", "2:21"),

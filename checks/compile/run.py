@@ -1,7 +1,7 @@
 #!/usr/bin/env python3
 """Compares arena-compile with the compiler in Python, and both with the interpreter of checks/python, which was written from
 docs/LANGUAGE.md alone, on drawn sources, and on some with numbers, bits, loops that count, constants, calls, tasks, groups, cells,
-inline functions and parallel loops, at their edges: what both make is rehearsed on drawn schedules, and what `arena-compile --serial` prints must
+inline functions, parallel loops, and calls inside values, at their edges: what both make is rehearsed on drawn schedules, and what `arena-compile --serial` prints must
 be the line of the interpreter's value. Of the examples in examples/jobs those that it takes must give what they say. Sources with
 faults must be refused at the first one. The last line says how many.
 
@@ -21,6 +21,7 @@ from dataclasses import dataclass
 TOP = pathlib.Path(__file__).resolve().parents[2]
 sys.path[:0] = [str(TOP / "checks" / "python"), str(TOP / "checks" / "build"), str(TOP / "python")]
 
+from asking_sources import ASKING  # noqa: E402
 from bit_sources import BITS  # noqa: E402
 from calling_sources import CALLING  # noqa: E402
 from core_sources import Sources  # noqa: E402
@@ -66,7 +67,7 @@ REPLIES = (
 )
 """Sources, the words for arena-compile, its status, its output, and standard error up to a colon and a space."""
 
-TAKEN = {"fib.job", "hash.job", "posted.job", "primes.job", "queens.job", "serial.job", "sum.job"}
+TAKEN = {"fib.job", "hash.job", "keeper.job", "longest.job", "posted.job", "primes.job", "queens.job", "serial.job", "sum.job"}
 """The examples that arena-compile takes."""
 
 HEAD = re.compile(r"^fn |\bp(?:sum|min|max) ")
@@ -200,7 +201,7 @@ def main(seed: int = 1, programs: int = 400) -> list[str]:
         source, arguments = sources.source(), (draws.randint(-5, 9), draws.randint(-5, 9))
         said = difference(program, source, arguments, draws, seen)
         found += [said] if said else []
-    found += [said for source, arguments in (*BITS, *COUNTING, *CALLING, *WAITING, *GROUPS, *INLINES, *PARALLEL) if (said := difference(program, source, arguments, draws, Counter()))]
+    found += [said for source, arguments in (*BITS, *COUNTING, *CALLING, *WAITING, *GROUPS, *INLINES, *PARALLEL, *ASKING) if (said := difference(program, source, arguments, draws, Counter()))]
     found += [said for source, arguments, cells in SHARING if (said := difference(program, source, arguments, draws, Counter(), cells))]
     found += example_differences(program, draws)
     found += [said for source, place in REFUSED if (said := refused_difference(program, source, place))]
@@ -212,7 +213,7 @@ def main(seed: int = 1, programs: int = 400) -> list[str]:
         print(f"too few programs are {', '.join(rare)}")
     shown = ", ".join(f"{count} {kind}" for kind, count in sorted(seen.items()))
     print(f"{programs} sources by two compilers ({shown}), {len(BITS)} with bits, {len(COUNTING)} that count, {len(CALLING)} that call, "
-          f"{len(WAITING)} that wait, {len(GROUPS)} with groups, {len(INLINES)} with inline functions, {len(PARALLEL)} with parallel loops, {len(SHARING)} that share, {len(TAKEN)} of the examples, {len(REFUSED)} refused: {len(found)} differences")
+          f"{len(WAITING)} that wait, {len(GROUPS)} with groups, {len(INLINES)} with inline functions, {len(PARALLEL)} with parallel loops, {len(ASKING)} with calls and the like inside values, {len(SHARING)} that share, {len(TAKEN)} of the examples, {len(REFUSED)} refused: {len(found)} differences")
     return found or rare
 
 
