@@ -8,14 +8,16 @@ from collections.abc import Iterator
 from functools import partial
 
 from hosts import Host, ask, execute, fib, hang_up, tenant
-from servers import Bound, by_deadline, side_by_side
+from servers import PATIENCE, Bound, by_deadline, side_by_side
 from waits import used_while_it_waits
 
-# How long a session may outlive its client, in seconds.
-SOON = 10
-# Makes an entry of the history 100,000 times, and gives 7. It takes a tenth of a second or more.
-LONG = {"args": [100_000, 7], "fuel": 1_000_000, "procs": [[
-    ["set", 2, 1], ["count", 3, 0], ["sub", 0, 0, 2], ["jz", 0, 5], ["jmp", 1], ["ret", 1]]]}
+# How long a session may outlive its client, in seconds: hundreds of times as long as it does.
+SOON = 30
+# How many entries a job makes that is to be under way while another one is made: they take a fast machine 30 ms. If
+# that was looked for too late, it makes more, in the end as many as the fuel of a job allows.
+ENTRIES = (100_000, 300_000, 850_000, 850_000, 850_000, 850_000)
+# How many of them a round makes, of which three other instructions count the rounds.
+A_ROUND = 20
 WAITS = {"args": [0, 0], "fuel": 10, "procs": [[["ret", 0]]]}
 
 
@@ -66,6 +68,13 @@ def one_waits_for_a_place() -> None:
     assert host.stop() == 0
 
 
+def makes(entries: int) -> dict:
+    """A job that makes so many entries of its history, and gives 7. A count is the cheapest instruction that is an
+    entry."""
+    return {"args": [entries // A_ROUND, 7], "fuel": 1_000_000, "procs": [[
+        ["set", 2, 1], *[["count", 3, 0]] * A_ROUND, ["sub", 0, 0, 2], ["jz", 0, A_ROUND + 4], ["jmp", 1], ["ret", 1]]]}
+
+
 def goes(host: Host, connection: Bound, requests: list[dict], answers: list[dict]) -> None:
     """A client that sends requests, reads as many replies as are named, and goes. Another client is served soon."""
     connection.client.sendall("".join(json.dumps(it) + "\n" for it in requests).encode())
@@ -76,35 +85,62 @@ def goes(host: Host, connection: Bound, requests: list[dict], answers: list[dict
     assert time.monotonic() - began < SOON
 
 
-def goes_while_it_executes(host: Host, holder: Bound) -> None:
-    """A client goes whose executed job, number 3, waits for a slot: the only one is reserved, and the holder's job, number
-    2, is on it. Nothing ever runs that job."""
-    holds, waits = {"op": "poll", "job": 2}, {"op": "poll", "job": 3}
-    running = {"job": 2, "status": "running"}
-    connection = host.connect()
-    holder.client.sendall((json.dumps({"op": "execute", "job": LONG}) + "\n").encode())
-    assert by_deadline(lambda: known(ask(connection, holds))) == running
-    goes(host, connection, [holds, {"op": "execute", "job": WAITS}], [running])
-    assert json.loads(holder.replies.readline()) == {"job": 2, "status": "complete", "value": 7}
-    assert ask(holder, waits) == {"job": 3, "status": "running"}
+def status_of(connection: Bound, job: int) -> str | None:
+    """How far a job is: none if there is no such job."""
+    reply = ask(connection, {"op": "poll", "job": job})
+    if reply == {"code": 6, "error": "unknown_job"}:
+        return None
+    assert reply["job"] == job, reply
+    return reply["status"]
 
 
-def known(reply: dict) -> dict | None:
-    """The reply to a poll, none as long as there is no such job."""
-    return None if reply == {"code": 6, "error": "unknown_job"} else reply
+def status_once_known(connection: Bound, job: int) -> str:
+    """How far a job is as soon as there is one, which is looked for all the time: it may be over within some
+    milliseconds."""
+    end = time.monotonic() + PATIENCE
+    while not (status := status_of(connection, job)):
+        assert time.monotonic() < end, f"there is no job {job}"
+    return status
+
+
+def goes_while_it_executes(host: Host, holder: Bound, watcher: Bound, entries: int) -> bool:
+    """A client goes whose executed job waits for a slot: the only one is reserved, and the holder's job, which makes so
+    many entries, is on it. Nothing ever runs that job. Returns whether the watcher saw the holder's job on the slot
+    before the other one was made, and after that; if it did not, nothing is known."""
+    # The numbers follow one another, and nobody else makes jobs.
+    number = ask(watcher, {"op": "submit", "job": WAITS})["job"]
+    held, waiting, connection = number + 1, number + 2, host.connect()
+    holder.client.sendall((json.dumps({"op": "execute", "job": makes(entries)}) + "\n").encode())
+    was_held = status_once_known(watcher, held) == "running"
+    connection.client.sendall((json.dumps({"op": "execute", "job": WAITS}) + "\n").encode())
+    status_once_known(watcher, waiting)
+    is_held = was_held and status_of(watcher, held) == "running"
+    goes(host, connection, [], [])
+    assert json.loads(holder.replies.readline()) == {"job": held, "status": "complete", "value": 7}
+    assert not is_held or status_of(watcher, waiting) == "running"
+    return is_held
+
+
+def is_seen_to_wait(entries: int) -> bool:
+    """Clients of a host of their own go while they wait; whether one of them was seen to have a job that waited for the
+    only slot, which a job of so many entries had. Of the three places two are the holder's and the watcher's all the
+    time."""
+    host = Host([tenant("acme", steps=1_048_576, slots=1, reserved=1)], "--connections", 3, "--rotate-at", 100)
+    holder, watcher = host.connect(), host.connect()
+    goes(host, host.connect(), [{"op": "submit", "job": WAITS}, {"op": "collect", "job": 1}], [{"job": 1}])
+    is_seen = goes_while_it_executes(host, holder, watcher, entries)
+    goes(host, host.connect(), [{"op": "arena"}], [{"priority": "normal", "reserved": 1, "slots": 1}])
+    goes(host, host.connect(), [], [])
+    hang_up(holder, watcher)
+    assert host.stop() == 0
+    return is_seen
 
 
 def clients_that_go_while_they_wait() -> None:
-    """Whatever a session waits for, its place is free soon after its client has gone, and the next client is served. The
-    only slot is reserved, so nothing runs what is submitted. One of the two places is the holder's all the time."""
-    host = Host([tenant("acme", steps=1_000_000, slots=1, reserved=1)], "--connections", 2)
-    holder = host.connect()
-    goes(host, host.connect(), [{"op": "submit", "job": WAITS}, {"op": "collect", "job": 1}], [{"job": 1}])
-    goes_while_it_executes(host, holder)
-    goes(host, host.connect(), [{"op": "arena"}], [{"priority": "normal", "reserved": 1, "slots": 1}])
-    goes(host, host.connect(), [], [])
-    hang_up(holder)
-    assert host.stop() == 0
+    """Whatever a session waits for, its place is free soon after its client has gone, and the next client is served.
+    The only slot is reserved, so nothing runs what is submitted. Who looks too late, since the machine is fast or this
+    program was kept from a processor, looks again at another host, and at a longer job."""
+    assert any(map(is_seen_to_wait, ENTRIES)), "each job was over before another one waited for its slot"
 
 
 def threads_that_wait_use_no_processor() -> None:
