@@ -11,10 +11,11 @@ from functools import partial
 from servers import FIB, HELLO, PATIENCE, SEVEN, Bound, Server, side_by_side, tenant
 from waits import used_while_it_waits
 
-# How long a session may outlive its client, and a server its stop, in seconds.
-SOON = 2
+# How long a session may outlive its client, and a server its stop, in seconds: a server is patient for one, and the
+# rest is for a machine that is slow or busy.
+SOON = 45
 # How often a check is tried in which this program must not be kept from the processor for a second.
-TRIES = 5
+TRIES = 10
 # 12,192 entries or more, so that the history of `tenant` is full.
 LONG = {**FIB, "args": [16, 0], "fuel": 1_000_000}
 
@@ -131,7 +132,7 @@ def removal_ends_one_that_waits_first() -> bool:
     is_first = not is_cut(deaf.client)
     lines, err, status = server.end()
     assert is_closed(lines) and (err, status) == ("", 0)
-    assert time.monotonic() - began < 2 * SOON
+    assert time.monotonic() - began < SOON
     hang_up(waiting, silent, deaf)
     return is_first
 
@@ -189,7 +190,7 @@ def removal_ends_a_server_that_is_busy() -> None:
     began = side_by_side(stop, *clients)[0]
     lines, err, status = server.end()
     assert is_closed(lines, names) and (err, status) == ("", 0)
-    assert time.monotonic() - began < 5 * SOON
+    assert time.monotonic() - began < SOON
 
 
 def server_leaves_the_socket_of_the_next() -> None:

@@ -8,7 +8,7 @@ from waits import ask
 
 # How many jobs keep the worker at a tenant, and how often it is tried in case they don't keep it for long enough.
 JOBS = 100
-TRIES = 5
+TRIES = 10
 # A job that spends all its fuel, which takes a thousand entries.
 SPINNING = {"args": [0, 0], "fuel": 1_000_000, "procs": [[["jmp", 0]]]}
 COMPLETE = {"job": 1, "status": "complete", "value": 7}

@@ -29,8 +29,9 @@ FIB = {"args": [6, 0], "fuel": 1000, "procs": [[
     ["sub", 3, 3, 2], ["spawn", 0, 0, 3, 1], ["wait", 4, 5, 0], ["ret", 4]]]}
 SEVEN = {"args": [7, 0], "fuel": 10, "procs": [[["ret", 0]]]}
 JUMPS_AWAY = {"args": [0, 0], "fuel": 1000, "procs": [[["jmp", 1]]]}
-# Memory for a tenant and the stacks of some threads, but not of 32.
-FEW_STACKS = 45 << 20
+# Memory for a tenant and the stacks of some threads, but not of 32 nor of 12. A thread's stack has this size in the C
+# library, unless the machine's limit for stacks says otherwise.
+FEW_STACKS, STACK = 45 << 20, 8 << 20
 HELLO = {"op": "hello", "tenant": "acme"}
 
 
@@ -55,8 +56,14 @@ def tenant(name: str, slots: int, reserved: int) -> dict:
 
 
 def limited(memory: int) -> Callable[[], None]:
-    """Limits the memory that a process may map, in bytes, its threads' stacks among it."""
-    return lambda: resource.setrlimit(resource.RLIMIT_AS, (memory, memory))
+    """Limits the memory that a process may map, in bytes, its threads' stacks among it, of which each has the same size
+    on all machines."""
+    def limit() -> None:
+        _, most = resource.getrlimit(resource.RLIMIT_STACK)
+        resource.setrlimit(resource.RLIMIT_STACK, (STACK if most == resource.RLIM_INFINITY else min(STACK, most), most))
+        resource.setrlimit(resource.RLIMIT_AS, (memory, memory))
+
+    return limit
 
 
 def side_by_side(*calls: Callable[[], object]) -> list:
@@ -70,8 +77,9 @@ def side_by_side(*calls: Callable[[], object]) -> list:
     return [it.result() for it in made]
 
 
-def by_deadline(what: Callable[[], T], seconds: float = 20) -> T:
-    """Waits until something is so of which nothing tells, and returns what it is."""
+def by_deadline(what: Callable[[], T], seconds: float = PATIENCE) -> T:
+    """Waits until something is so of which nothing tells, and returns what it is. What passes soon may not be seen
+    so."""
     end = time.monotonic() + seconds
     while not (found := what()):
         assert time.monotonic() < end, f"{what} is not so after {seconds} seconds"
