@@ -19,8 +19,11 @@ UNKNOWN = {"code": 6, "error": "unknown_job"}
 # Fibonacci numbers, by their places.
 FIBONACCI = [0, 1, 1, 2, 3, 5, 8, 13, 21, 34]
 SEED = 20_261_129
-STOPS = 8
-"""How often a stop is tried, in which jobs may have ended: a busy machine may be slow while they are made, and fast then."""
+AT_LEAST = 20
+"""How many jobs are acknowledged at least before each kill."""
+STOPS = (1.5, 3, 6, 12, 12, 12)
+"""How many seconds jobs take, or so, at each try of a stop, in which they may have ended: a busy machine may be slow
+while they are made, and fast then."""
 
 
 def submits(n: int) -> dict:
@@ -127,27 +130,41 @@ class Submitter:
         self.thread.join()
 
 
+def acknowledged(submitters: list[Submitter]) -> int:
+    """How many jobs were acknowledged so far."""
+    return sum(len(it.told) for it in submitters)
+
+
+def kill_at_a_drawn_moment(host: Host, submitters: list[Submitter], draw: random.Random,
+                           words: tuple[object, ...]) -> Host:
+    """Kills a host while clients submit, once some jobs were acknowledged, which takes a slow machine longer, and then
+    the next one as it starts. Returns the one after that."""
+    before = acknowledged(submitters)
+    time.sleep(draw.uniform(0.1, 0.8))
+    by_deadline(lambda: acknowledged(submitters) >= before + AT_LEAST)
+    host.kill()
+    starts = [PROGRAM, "--run", host.run, "--config", host.config, *map(str, words)]
+    with subprocess.Popen(starts, stdout=subprocess.DEVNULL, stderr=subprocess.DEVNULL) as begun:
+        time.sleep(draw.uniform(0, 0.1))
+        begun.kill()
+    return Host([tenant("acme", steps=20_000)], *words, after=host)
+
+
 def kills_at_drawn_moments() -> None:
     """Clients submit and collect while the host is killed again and again, also as it starts, and terms follow one another.
     No number comes twice, and in the end each job that was acknowledged has its outcome."""
     draw = random.Random(SEED)
     words = ("--keep", 10_000, "--connections", 8)
-    host = first = Host([tenant("acme", steps=20_000)], *words)
-    submitters = [Submitter(first, SEED + number) for number in range(4)]
+    host = Host([tenant("acme", steps=20_000)], *words)
+    submitters = [Submitter(host, SEED + number) for number in range(4)]
     for _kill in range(6):
-        time.sleep(draw.uniform(0.1, 0.8))
-        host.kill()
-        starts = [PROGRAM, "--run", host.run, "--config", host.config, *map(str, words)]
-        with subprocess.Popen(starts, stdout=subprocess.DEVNULL, stderr=subprocess.DEVNULL) as begun:
-            time.sleep(draw.uniform(0, 0.1))
-            begun.kill()
-        host = Host([tenant("acme", steps=20_000)], *words, after=host)
+        host = kill_at_a_drawn_moment(host, submitters, draw, words)
     time.sleep(0.3)
     for submitter in submitters:
         submitter.end()
         assert submitter.faults == [], submitter.faults
     told = dict(pair for submitter in submitters for pair in submitter.told)
-    assert len(told) == sum(len(submitter.told) for submitter in submitters) > 100
+    assert len(told) == acknowledged(submitters)
     client = host.connect()
     for job, n in told.items():
         assert ask(client, {"op": "collect", "job": job}) == complete(job, n), (job, n)
@@ -214,9 +231,9 @@ def a_journal_without_a_whole_line() -> None:
 def a_stop_leaves_long_jobs_to_the_next_start() -> None:
     """Jobs that have no outcome when an ordered stop waits no longer are left to the next start, which finishes them."""
     tenants = [tenant("noisy", steps=1_000_000, slots=2), tenant("quiet", steps=100_000, slots=2)]
-    for _ in range(STOPS):
+    for seconds in STOPS:
         host = Host(tenants, "--finish", 0, workers=1)
-        made = submits_many(host)
+        made = submits_many(host, seconds)
         assert host.stop() == 0
         [closed] = host.told("closed", tenant="noisy", term=0)
         assert closed["lost"] == 0, closed

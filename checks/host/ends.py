@@ -5,7 +5,13 @@ import signal
 import time
 
 from hosts import Host, Load, ask, dump_lines, dumps, fib, hang_up, is_at_end, results, rotate, tenant
-from servers import by_deadline
+from servers import PATIENCE, by_deadline
+
+# How long a host may take at most that is stopped, in seconds: its jobs have ten, and it takes less than one by a
+# machine that is idle.
+SOON = 45
+# How many jobs are acknowledged at least before each kill.
+AT_LEAST = 3
 
 # What a client may get from a host that ends: a reply that is right, none, the end of its connection, or that its history
 # takes no new job: because it is full, or because the host was stopped just before.
@@ -19,7 +25,7 @@ def stop_under_load() -> None:
     by_deadline(lambda: load.replies["right"] > 20)
     began = time.monotonic()
     assert host.stop() == 0
-    assert time.monotonic() - began < 20
+    assert time.monotonic() - began < SOON
     replies = load.end()
     assert set(replies) <= ENDED, replies
     assert set(host.closed()) == {"acme", "beta"}
@@ -59,8 +65,8 @@ def kills_at_drawn_moments() -> None:
     for _ in range(6):
         load = Load(host, 4)
         client = host.connect()
-        until = time.monotonic() + draw.uniform(0.1, 0.8)
-        while time.monotonic() < until:
+        until, least = time.monotonic() + draw.uniform(0.1, 0.8), len(seen) + AT_LEAST
+        while time.monotonic() < until or len(seen) < least and time.monotonic() < until + PATIENCE:
             made = ask(client, {"op": "submit", "job": fib(3)["job"]})
             if "job" in made:
                 seen.append(made["job"])
@@ -68,7 +74,7 @@ def kills_at_drawn_moments() -> None:
                 ask(client, {"op": "retire"})
         host.kill()
         replies = load.end()
-        assert set(replies) <= ENDED, replies
+        assert set(replies) <= ENDED and len(seen) >= least, (replies, seen)
         for number in dumps(host, "acme"):
             dump_lines(host.path("dumps", f"acme.{number:06}.jsonl"))
         host = Host([tenant("acme", steps=600)], "--connections", 5, "--keep", 100, after=host)
@@ -76,7 +82,7 @@ def kills_at_drawn_moments() -> None:
     assert ask(client, fib(5))["value"] == 5
     hang_up(client)
     assert host.stop() == 0
-    assert seen == sorted(set(seen)) and len(seen) > 6
+    assert seen == sorted(set(seen))
     assert all(not it.endswith("part") for it in os.listdir(host.path("dumps")))
 
 

@@ -32,6 +32,9 @@ FULL = {"code": 8, "error": "history_full"}
 # says.
 MOST_TERMS = 8
 KEEP = 8
+# How long a host may take to end, and the look at a dump, in seconds: some hundred thousand entries take a slow machine a
+# while.
+LONG_PATIENCE = 3 * PATIENCE
 
 
 def fib(n: int) -> dict:
@@ -134,8 +137,8 @@ class Host:
         return self.ended()
 
     def ended(self) -> int:
-        """Waits until the host has ended, for a minute at most, looks at what it told and left, and returns the status."""
-        status = self.process.wait(timeout=PATIENCE)
+        """Waits until the host has ended, for some minutes at most, looks at what it told and left, and returns the status."""
+        status = self.process.wait(timeout=LONG_PATIENCE)
         for reader in self.readers:
             reader.join()
         for line in self.events:
@@ -176,7 +179,7 @@ class Host:
 def dump_lines(path: str) -> int:
     """How many lines a dump has, which `check` says yes to."""
     with open(path) as dump:
-        done = subprocess.run([SCRIPT, "check"], stdin=dump, capture_output=True, text=True, timeout=PATIENCE)
+        done = subprocess.run([SCRIPT, "check"], stdin=dump, capture_output=True, text=True, timeout=LONG_PATIENCE)
         assert (done.stdout, done.stderr, done.returncode) == ("yes\n", "", 0), (path, done)
         dump.seek(0)
         return sum(1 for _ in dump)

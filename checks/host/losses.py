@@ -1,4 +1,5 @@
 """What a host must not lose: jobs, histories, and the turn of whoever waits for it."""
+import json
 import os
 import pathlib
 import subprocess
@@ -25,11 +26,14 @@ def one_term_for_a_full_history() -> None:
     """A history that is used so far leads to one term more, beside a tenant that nobody asks, each time."""
     host = Host([tenant("acme", steps=400), tenant("idle")], workers=1)
     for number in range(4):
-        client = host.connect()
-        while not host.told("opened", tenant="acme", term=number + 1):
-            assert ask(client, {"op": "execute", "job": SEVEN})["status"] == "complete"
+        client, job = host.connect(), 0
+        while job <= 400 * (number + 1):  # the jobs of the next term are numbered after that
+            done = ask(client, {"op": "execute", "job": SEVEN})
+            assert done["status"] == "complete"
+            job = done["job"]
             time.sleep(0.003)
         hang_up(client)
+        by_deadline(lambda: host.told("opened", tenant="acme", term=number + 1))
         time.sleep(0.3)  # longer than it took to open
         assert [it["term"] for it in host.told("opened", tenant="acme")] == list(range(number + 2))
     assert host.stop() == 0
@@ -50,13 +54,16 @@ def rounds_a_second(host: Host) -> int:
         rounds = min(3 * rounds, MOST_ROUNDS)
 
 
-def submits_many(host: Host) -> list[int]:
-    """Jobs that take the only worker a second and a half or so, whose client has gone: their numbers."""
+def submits_many(host: Host, seconds: float = 1.5) -> list[int]:
+    """Jobs that take the only worker so many seconds or so, whose client has gone: their numbers. A fast machine does
+    the most that there may be within less."""
     speed = rounds_a_second(host)
-    rounds = min(speed // 8, MOST_ROUNDS)
-    jobs = min(max(12, 3 * speed // (2 * rounds)), MOST_JOBS)
+    rounds = min(int(seconds * speed / 12), MOST_ROUNDS)
+    jobs = min(int(max(12, seconds * speed / rounds)), MOST_JOBS)
     client = host.connect("noisy")
-    made = [ask(client, {"op": "submit", "job": counts_down(rounds)})["job"] for _ in range(jobs)]
+    # All at once: where each waited for the reply to the one before, the worker could do them as they come.
+    client.client.sendall((json.dumps({"op": "submit", "job": counts_down(rounds)}) + "\n").encode() * jobs)
+    made = [json.loads(client.replies.readline())["job"] for _ in range(jobs)]
     hang_up(client)
     return made
 
@@ -135,7 +142,8 @@ def history_that_is_not_written_is_a_fault() -> None:
         for reader in host.readers:
             reader.join()
     assert ends == {"off": (3, ["arena-host: device"]), "write": (0, [])}, ends
-    assert 25 < took < 45, f"it took {took:.1f} s"
+    # The time that it tries, and as long again for what a slow machine does before and after that.
+    assert 25 < took < PATIENCE, f"it took {took:.1f} s"
     for host in hosts.values():
         closed = host.status()["closed"]
         assert sorted((it["tenant"], it["dumped"]) for it in closed) == [(name, False) for name in names]
@@ -147,12 +155,15 @@ def history_that_is_not_written_is_a_fault() -> None:
 
 
 def one_tenant_keeps_no_other_from_its_dump() -> None:
-    """A folder stands where acme's dump would be. beta has its dump all the same, at once, and acme once it is gone."""
+    """A folder stands where acme's dump would be. beta has its dump all the same, before acme's is given up, and acme
+    once it is gone."""
     host = Host([tenant("acme"), tenant("beta")])
     os.makedirs(host.path("dumps", "acme.000000.jsonl", "full"))
     open(host.path("rotate"), "w").close()
-    by_deadline(lambda: dumps(host, "beta") == [0], 10)
-    assert host.told("fault", what="dump", tenant="acme", term=0) and not host.told("closed", tenant="acme")
+    by_deadline(lambda: dumps(host, "beta") == [0])
+    # Threads bring what is told here, and may be late.
+    by_deadline(lambda: host.told("fault", what="dump", tenant="acme", term=0))
+    assert not host.told("closed", tenant="acme")
     os.removedirs(host.path("dumps", "acme.000000.jsonl", "full"))
     by_deadline(lambda: host.told("closed", tenant="acme", term=0))
     assert host.stop() == 0

@@ -25,7 +25,8 @@ def three_by_history() -> None:
     tenants = [tenant("acme", steps=400_000), tenant("beta", steps=600_000)]
     host = Host(tenants, "--connections", 8, "--rotate-at", 10, workers=2)
     load = Load(host, 8, ("acme", "beta"))
-    by_deadline(lambda: all(len(host.told("opened", tenant=name)) >= 4 for name in ("acme", "beta")), seconds=60)
+    names = ("acme", "beta")
+    by_deadline(lambda: all(len(host.told("opened", tenant=name)) >= 4 for name in names), seconds=3 * PATIENCE)
     replies = load.end()
     assert set(replies) == {"right"}, replies
     assert host.stop() == 0
@@ -202,10 +203,12 @@ def asks_both(host: Host) -> list[Bound]:
 
 def what_it_shows() -> None:
     """The members of the status are those of its page, with what clients have done."""
+    began = time.time()  # times of the status are later, in whole seconds
     host = Host([tenant("acme"), tenant("beta", steps=500, slots=1, reserved=1)], "--connections", 3, "--keep", 5,
                 "--finish", 7)
     connections = asks_both(host)
     status = by_deadline(lambda: shown(host, lambda acme, beta: acme["asks"] == 4 and beta["asks"] == 3))
+    assert began - 1 < status["time"] <= time.time() and status["memory"] > 1 << 20 and status["closed"] == []
     assert set(status) == {"version", "time", "began", "connections", "connected", "served", "cut", "tenant_connections",
                            "hello_seconds", "idle_seconds", "rotate_at", "keep", "finish", "durable", "memory", "workers",
                            "tenants", "terms", "closed"}
@@ -217,9 +220,9 @@ def what_it_shows() -> None:
     assert (status["cut"], status["hello_seconds"], status["idle_seconds"]) == ({"hello": 0, "idle": 0}, 60, 0)
     assert status["tenant_connections"] == 64
     assert status["tenants"] == [{"tenant": it, "connected": 1, "refused": 0} for it in ("acme", "beta")]
-    assert abs(status["time"] - time.time()) < 5 and status["memory"] > 1 << 20 and status["closed"] == []
     acme, beta = status["terms"]
-    assert acme.pop("began") >= status["began"] and beta.pop("began") >= status["began"]
+    # On a slow machine the first terms begin some seconds before what the status says of the host.
+    assert all(began - 1 < it <= status["time"] for it in (status["began"], acme.pop("began"), beta.pop("began")))
     # Each execute is itself and its collect; the division is one advance besides.
     assert 83 < acme.pop("entries") < 123, acme
     assert acme == {"tenant": "acme", "term": 0, "state": "serving", "why": None, "base": 0, "steps": 10_000, "asks": 4,
@@ -245,25 +248,31 @@ def is_at_work(host: Host) -> bool:
     status = host.status()
     if status["workers"] != [{"worker": 0, "tenant": "acme", "slot": 1}]:
         return False
-    [acme] = status["terms"]
-    rows = acme["rows"]
-    return 1 < rows["open"] == rows["waiting"] + 1 == acme["jobs_now"]["running"]
+    rows = [(it["rows"]["open"], it["rows"]["waiting"], it["jobs_now"]["running"]) for it in status["terms"]]
+    return any(1 < is_open == waiting + 1 == running for is_open, waiting, running in rows)
+
+
+def submits_all(client: Bound) -> int:
+    """Submits the spinning jobs, whose numbers rise, also from one term to the next. Returns that of the last one."""
+    client.client.sendall((json.dumps({"op": "submit", "job": SPINNING}) + "\n").encode() * JOBS)
+    made = [json.loads(client.replies.readline())["job"] for _ in range(JOBS)]
+    assert made == sorted(set(made)), made
+    return made[-1]
 
 
 def what_it_shows_of_a_worker_at_work() -> None:
-    """It is at a slot of acme's, and all rows but the one that it runs wait to be started. The status is a second old at
-    most, so jobs are submitted again as long as it shows none."""
-    host = Host([tenant("acme", steps=1_000_000, slots=2)], "--connections", 1, "--rotate-at", 100, workers=1)
-    client, last, end = host.connect(), 0, time.monotonic() + PATIENCE
+    """It is at a slot of acme's, and all rows but the one that it runs wait to be started. The status is a second old
+    at most, so jobs are submitted again as long as it shows none: a fast machine does many of them in a second, and
+    fills a history."""
+    host = Host([tenant("acme", steps=1_000_000, slots=2)], "--connections", 1, "--keep", 1, workers=1)
+    client, end = host.connect(), time.monotonic() + 2 * PATIENCE
+    last = submits_all(client)
     while not is_at_work(host):
         assert time.monotonic() < end, host.status()
-        if last == 0 or ask(client, {"op": "poll", "job": last})["status"] != "running":
-            if last:
-                assert "epoch" in ask(client, {"op": "retire"})
-            client.client.sendall((json.dumps({"op": "submit", "job": SPINNING}) + "\n").encode() * JOBS)
-            made = [json.loads(client.replies.readline()) for _ in range(JOBS)]
-            assert made == [{"job": last + n + 1} for n in range(JOBS)], made
-            last += JOBS
+        if ask(client, {"op": "poll", "job": last})["status"] != "running":
+            # Those of a term before may not have ended.
+            by_deadline(lambda: "epoch" in ask(client, {"op": "retire"}))
+            last = submits_all(client)
         time.sleep(0.02)
     hang_up(client)
     assert host.stop() == 0

@@ -5,12 +5,12 @@ import subprocess
 import tempfile
 
 from hosts import PROGRAM, Host, ask, dumps, fib, hang_up, tenant
-from servers import by_deadline
+from servers import PATIENCE, by_deadline
 
 
 def run(*words: str) -> tuple[str, str, int]:
     """What a host prints that does not start, what it says of a fault, and its status."""
-    done = subprocess.run([PROGRAM, *words], capture_output=True, text=True, timeout=20)
+    done = subprocess.run([PROGRAM, *words], capture_output=True, text=True, timeout=PATIENCE)
     return done.stdout, done.stderr, done.returncode
 
 

@@ -70,10 +70,10 @@ def who_reads_nothing_holds_up_no_term() -> None:
     by_deadline(lambda: ask(client, {"op": "poll", "job": 1})["status"] == "complete")
     client.client.setblocking(False)
     line, sent = b'{"op":"poll","job":1}\n', 0
-    # Until neither the host takes more nor the stream has room.
+    # Until neither the host takes more nor the stream has room. What was sent may end within a line.
     while select.select([], [client.client], [], 1)[1]:
         with contextlib.suppress(BlockingIOError):
-            sent += client.client.send(line * 1000)
+            sent += client.client.send((line * 1001)[sent % len(line):])
     for number, name in ((1, "acme"), (1, "beta"), (2, "acme")):
         rotate(host, number, name)
     by_deadline(lambda: {(it["tenant"], it["term"]) for it in host.told("closed")} >= {("acme", 0), ("beta", 0)})
