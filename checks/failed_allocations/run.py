@@ -19,6 +19,7 @@ import pathlib
 import subprocess
 import sys
 import tempfile
+from collections.abc import Iterable
 from concurrent.futures import ThreadPoolExecutor
 
 from calls import Calls
@@ -29,13 +30,28 @@ from sessions import Server
 
 # A sweep ends after so many runs in a row in which no allocation failed, or after so many that are wrong.
 WHOLE_RUNS, WRONG_RUNS = 3, 10
+# How often a program is swept at most until each effect has come up: by how threads take turns an allocation has
+# another number, and so the only one of an effect may be missed.
+SWEEPS = 4
 
 
-def sweep(program: Program, failing: pathlib.Path, stride: int) -> tuple[int, list[str]]:
-    """Fails each allocation of a program in turn, from the first on, by that stride. Returns how many failed, and a line for
-    each fault that was found. Runs that wait most of their time go on side by side."""
-    effects, wrong, whole = collections.Counter(), [], 0
-    numbers = itertools.count(1, stride)
+def swept(program: Program, failing: pathlib.Path, stride: int) -> tuple[int, list[str]]:
+    """Sweeps a program until each of its effects has come up, or something is wrong. Returns how many allocations
+    failed, and a line for each fault that was found."""
+    effects = collections.Counter[str]()
+    for turn in range(SWEEPS):
+        wrong = sweep(program, failing, range(1 + turn * stride // SWEEPS, sys.maxsize, stride), effects)
+        if wrong or all(effects[it] for it in program.effects):
+            return effects.total(), wrong
+    missing = [it for it in program.effects if not effects[it]]
+    return effects.total(), [f"{program.name}, whichever allocation failed, never: {it}" for it in missing]
+
+
+def sweep(program: Program, failing: pathlib.Path, which: Iterable[int],
+          effects: collections.Counter[str]) -> list[str]:
+    """Fails these allocations of a program in turn, and counts what that did. Returns a line for each fault that was
+    found. Runs that wait most of their time go on side by side."""
+    wrong, whole, numbers = [], 0, iter(which)
     with ThreadPoolExecutor(program.lanes) as pool:
         while whole < WHOLE_RUNS and len(wrong) < WRONG_RUNS:
             batch = list(itertools.islice(numbers, program.lanes))
@@ -45,8 +61,7 @@ def sweep(program: Program, failing: pathlib.Path, stride: int) -> tuple[int, li
                 effects[outcome.effect] += outcome.has_failed
                 if outcome.effect is None or not outcome.has_failed and outcome.effect != "nothing":
                     wrong.append(f"{program.name}, where allocation {number} was to fail: {outcome.seen}")
-    missing = [f"{program.name}, whichever allocation failed, never: {it}" for it in program.effects if not effects[it]]
-    return effects.total(), wrong or missing
+    return wrong
 
 
 def main() -> None:
@@ -62,7 +77,7 @@ def main() -> None:
         for program in [Calls(), *scripts(), Server(), Host()]:
             if words.names and program.name not in words.names:
                 continue
-            failed, others = sweep(program, failing, 1 if words.names else program.stride)
+            failed, others = swept(program, failing, 1 if words.names else program.stride)
             print(f"{program.name}: {failed} allocations failed", flush=True)
             count, wrong = count + failed, wrong + others
     print(*wrong, sep="\n", end="\n" if wrong else "")
