@@ -15,7 +15,9 @@ from shards import EXAMPLES, Shard, run
 FRONT, INNER = "front.example.org", "shard2.example.org"
 # How many connections a shard has at a time, and a tenant in all, in place of those of the examples.
 SESSIONS, OF_TENANT = 4, 12
-SOON = 10
+# How long anything may take that comes by itself, in seconds, and how long a client has for its first line, in place of
+# ten.
+SOON, FIRST_LINE = 60, 3
 
 
 def free_port() -> int:
@@ -116,7 +118,7 @@ class Front:
         text = text.replace(commented, commented.replace("# ", ""))
         text = replaced(text, {":7443": f"127.0.0.1:{self.port}", f"{INNER}:7444": f"127.0.0.1:{self.inner_port}",
                                "127.0.0.1:8404": f"127.0.0.1:{self.metrics_port}", "maxconn 20000": "maxconn 500",
-                               "gt 500": f"gt {OF_TENANT}", "inspect-delay 10s": "inspect-delay 1s",
+                               "gt 500": f"gt {OF_TENANT}", "inspect-delay 10s": f"inspect-delay {FIRST_LINE}s",
                                **self.changes(self.folder, self.shards[0])})
         (self.folder / "front.cfg").write_text(text)
         text = replaced((EXAMPLES / "shard.cfg").read_text(), {

@@ -47,6 +47,13 @@ def greeted(front: Front, tenant: str) -> Client:
     return client
 
 
+def asking(front: Front, tenant: str) -> Client:
+    """A client that has sent its hello and a request, both at once: who is late with the first line is cut off."""
+    client = front.connect(pem(front, tenant))
+    client.send(hello(tenant), ARENA)
+    return client
+
+
 def slots(client: Client) -> int:
     """By its slots, at which shard a client is."""
     return client.ask(ARENA)[0]["slots"]
@@ -117,9 +124,7 @@ def shard_lets_in_fronts_alone(front: Front) -> None:
 def clients_wait_in_the_queue(front: Front) -> None:
     """More clients than a shard has sessions are held, and each is served once another has ended."""
     served = [greeted(front, TENANTS[n]) for n in range(SESSIONS)]
-    held = [front.connect(pem(front, "tenant-0")) for _ in range(2 * SESSIONS)]
-    for client in held:
-        client.send(hello("tenant-0"), ARENA)
+    held = [asking(front, "tenant-0") for _ in range(2 * SESSIONS)]
     wait_for(lambda: front.queue() == len(held), "all others are in the queue")
     for client in served:
         client.close()
@@ -158,14 +163,13 @@ def shard_dies_and_comes_back(front: Front) -> None:
     go on meanwhile."""
     shard = front.shards[0]
     served = [greeted(front, "tenant-1") for _ in range(SESSIONS)]
-    held = [front.connect(pem(front, "tenant-2")) for _ in range(2)]
-    held[0].send(hello("tenant-2"), ARENA)
+    held = [asking(front, "tenant-2")]
     wait_for(lambda: front.queue() == 1, "one is in the queue")
     shard.kill()
     for client in served:
         assert client.is_closed()
         client.close()
-    held[1].send(hello("tenant-2"), ARENA)
+    held.append(asking(front, "tenant-2"))
     with greeted(front, "tenant-7") as other:
         assert slots(other) == SLOTS[1]
     assert not any(client.has_reply() for client in held)
