@@ -48,7 +48,7 @@ async def a_connect_that_is_cancelled_leaves_nothing():
         await raises_in(TimeoutError, asyncio.wait_for(client.connect(), SOON))
         await raises_in(arena.TimedOut, arena.aio.Client(path, "acme", timeout=SOON).connect())
         begun = time.monotonic()
-        while len(ended) < 2 and time.monotonic() < begun + PATIENCE:
+        while (len(ended) < 2 or len(asyncio.all_tasks()) > 1) and time.monotonic() < begun + PATIENCE:
             await asyncio.sleep(SOON)
         assert ended == [True, True] and len(asyncio.all_tasks()) == 1, asyncio.all_tasks()
 

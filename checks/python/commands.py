@@ -68,7 +68,8 @@ def waiting_jobs_are_looked_after(it):
     seven, still = it.server.file("seven.json"), {"ARENA_TENANT": "still"}
     it.call("submit", seven, out="1\n", **still)
     it.call("poll", "1", status=4, out="job 1: running\n", **still)
-    it.call("wait", "1", "--timeout", "0.5", status=7, err="^arena: collect 1: no reply within 0.5 s", **still)
+    # Within that time it also connects and is greeted.
+    it.call("wait", "1", "--timeout", "2.5", status=7, err="^arena: collect 1: no reply within 2.5 s", **still)
     it.call("retire", status=32, err="error 12, busy: .*cancel", **still)
     it.call("cancel", "1", out="job 1: canceled\n", **still)
     it.call("cancel", "1", "--json", status=1, out='{"first":false,"job":1}\n', **still)

@@ -10,7 +10,7 @@ import time
 import warnings
 from collections.abc import Awaitable, Callable, Sequence
 
-SOON, LATER, PATIENCE = 0.15, 0.5, 30
+SOON, LATER, PATIENCE = 0.15, 0.5, 120
 COMPLETE = '{{"job":{0},"status":"complete","value":{0}00}}'
 
 

@@ -8,7 +8,7 @@ import re
 import tempfile
 import threading
 import time
-from collections.abc import Callable, Iterable, Sequence
+from collections.abc import Callable, Iterable, Iterator, Sequence
 from typing import TYPE_CHECKING, Self, TextIO
 from unittest import mock
 
@@ -19,6 +19,10 @@ if TYPE_CHECKING:
 
 PAUSE = 0.01
 """How long it waits from one look at its folder to the next, in seconds; a real host takes a second."""
+
+SECOND = 1.0
+"""How often it writes its status, as a real host does: one of five seconds ago is stale, and a command may take as long
+to begin."""
 
 
 @functools.cache
@@ -87,6 +91,24 @@ class Folder:
             os.utime(self.file("status.json.part"), (at, at))
         os.rename(self.file("status.json.part"), self.file("status.json"))
 
+    @contextlib.contextmanager
+    def fresh(self, status: Callable[[], dict]) -> Iterator[None]:
+        """Writes a status again and again, as a host does, as long as the `with` block lasts."""
+        end = threading.Event()
+
+        def write() -> None:
+            while not end.wait(SECOND):
+                self.write(status())
+
+        self.write(status())
+        thread = threading.Thread(target=write)
+        thread.start()
+        try:
+            yield
+        finally:
+            end.set()
+            thread.join()
+
     def status(self, *terms: dict, closed: Iterable[dict] = (), workers: Iterable[dict] = (), began: int = 1,
                served: int = 0, at: float | None = None) -> dict:
         """A status of now, or of a time in seconds since 1970, that has these terms."""
@@ -146,7 +168,11 @@ class FakeHost(Folder):
         self.write(self.status(*self.open, closed=self.closed, began=self.began))
 
     def _run(self) -> None:
+        told = time.monotonic()
         while not self._end.wait(PAUSE):
+            if time.monotonic() > told + SECOND and os.path.exists(self.file("status.json")):
+                told = time.monotonic()
+                self.tell()
             if self.deaf:
                 continue
             for order in [it for it in os.listdir(self.path) if it.startswith("rotate")]:

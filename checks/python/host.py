@@ -53,15 +53,20 @@ def example_is_shown(it, folder):
 def status_of_now_is_done(it, folder):
     places = ("acme", 0), ("beta", 1), ("acme", 1), (None, None)
     workers = [{"worker": number, "tenant": name, "slot": slot} for number, (name, slot) in enumerate(places)]
-    now = folder.status(term(7, steps=200, entries=50), term(3, "beta"), workers=workers, closed=[
-        closed(5, fault=5, dumped=False, lost=2), closed(5, "beta", dumped=False), closed(6)])
-    folder.write(now)
+
+    def of_now():
+        at = int(time.time())
+        terms = term(7, steps=200, entries=50, began=at), term(3, "beta", began=at)
+        return folder.status(*terms, workers=workers, at=at, closed=[
+            closed(5, fault=5, dumped=False, lost=2), closed(5, "beta", dumped=False), closed(6)])
+
     rows = re.compile(r"(?s)host: 2 tenants served, .*\nworkers: 3 with a tenant, 1 waiting for a call\n.*"
                       r"\nacme +7 +serving +0 s +50 +200 +25\.0 +0 +0 +0 +0 +0 +2 +0\nbeta +3 +serving +0 s +0 +10,000 +0\.0 +0 +0 +0 +0 +0 +1 +0\n.*"
                       r"\nacme +5 .* 2 jobs lost; close fault 5\nbeta +5 .* no dump\nacme +6 .* dumped\n")
-    it.call("status", folder.path, out=rows, how=arena_process)
-    it.call("status", out=rows, ARENA_RUN=folder.path)
-    it.call("status", folder.path, out=rows, ARENA_RUN="/nowhere")
+    with folder.fresh(of_now):
+        it.call("status", folder.path, out=rows, how=arena_process)
+        it.call("status", out=rows, ARENA_RUN=folder.path)
+        it.call("status", folder.path, out=rows, ARENA_RUN="/nowhere")
     folder.write(folder.status())
     it.call("status", folder.path, out=re.compile(r"host: no tenant is served .*\n.*\n.*\n"))
 

@@ -49,26 +49,27 @@ def an_interrupted_pipeline_leaves_its_replies_to_nobody():
 
 
 def signals_at_any_moment_mix_nothing_up():
-    """Time limits at drawn moments: each answer that comes is that to its own request."""
+    """Time limits at drawn moments: each answer that comes is that to its own request. A limit is longer after one that
+    was too short, and shorter after an answer, so that both come about however fast the machine is."""
     def session(it):
         it.hello()
         while line := it.next():
             number = int(line.split(b":")[1].split(b",")[0])
             it.answer(COMPLETE.format(number))
 
-    answered, interrupted = 0, 0
-    with answering(*[session] * 2000) as path:
+    answered, interrupted, limit = 0, 0, 0.0002
+    with answering(*[session] * 100_000) as path:
         client = arena.Client(path, "acme")
         number, begun = 0, time.monotonic()
         while time.monotonic() < begun + 2 or (min(answered, interrupted) < 20 and time.monotonic() < begun + PATIENCE):
             number += 1
             try:
-                with alarm(after=0.00002 + number % 97 * 0.000004):
+                with alarm(after=0.00002 + number % 97 / 48 * limit):
                     found = client.poll(number)
                 assert found == arena.Complete(number * 100, number), (number, found)
-                answered += 1
+                answered, limit = answered + 1, limit * 0.97
             except Alarm:
-                interrupted += 1
+                interrupted, limit = interrupted + 1, min(limit * 1.03, SOON)
             except (arena.ConnectionLost, arena.InUse):
                 client.close()
                 client = arena.Client(path, "acme")

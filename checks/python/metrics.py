@@ -180,9 +180,13 @@ def answers_have_their_heads():
             assert asked(server, "/healthz")[:3:2] == (200, "ok\n")
 
 
+# How often it is tried whether connections keep others out, in case a machine is so busy that places are free late.
+TRIES = 5
+
+
 def no_client_keeps_it_busy():
     """A request has one time limit, however slowly its bytes come; and connections beyond the most are closed."""
-    with FakeHost() as host, served(host, most=2, seconds=1) as server:
+    with FakeHost() as host, served(host, most=2, seconds=3) as server:
         with socket.create_connection(("127.0.0.1", server.server_port)) as slow, contextlib.suppress(OSError):
             begun = time.monotonic()
             while time.monotonic() - begun < PATIENCE:
@@ -191,18 +195,34 @@ def no_client_keeps_it_busy():
                 with contextlib.suppress(TimeoutError):
                     if not slow.recv(1):
                         break
-        assert time.monotonic() - begun < 10
-        silent = [socket.create_connection(("127.0.0.1", server.server_port)) for _ in range(2)]
-        time.sleep(0.3)
-        try:
-            asked(server, "/healthz")
-            raise AssertionError("a third connection was answered")
-        except (OSError, http.client.HTTPException):
-            pass
-        time.sleep(1.5)
-        assert asked(server, "/healthz")[0] == 200
-        for it in silent:
-            it.close()
+        assert time.monotonic() - begun < PATIENCE / 2
+        assert any(two_keep_a_third_out(server) for _ in range(TRIES)), "a third connection was answered"
+        begun = time.monotonic()
+        while not is_well(server):  # once their places are free
+            assert time.monotonic() - begun < PATIENCE / 2
+            time.sleep(0.1)
+
+
+def two_keep_a_third_out(server):
+    """Whether two connections that say nothing, which are closed in time, keep a third one out. They are accepted in
+    their order. Where the place of a connection that has ended is not free by then, one of the two is kept out in the
+    place of the third."""
+    time.sleep(0.5)
+    silent = [socket.create_connection(("127.0.0.1", server.server_port), PATIENCE) for _ in range(2)]
+    is_kept_out = not is_well(server)
+    for it in silent:
+        with it, contextlib.suppress(ConnectionResetError):
+            assert it.recv(1) == b""
+    time.sleep(0.5)
+    return is_kept_out
+
+
+def is_well(server):
+    """Whether a server says that all is well. One that has no place left closes the connection."""
+    try:
+        return asked(server, "/healthz")[0] == 200
+    except (OSError, http.client.HTTPException):
+        return False
 
 
 def command_serves():

@@ -88,9 +88,11 @@ def orders_need_a_host(it):
 
 
 def host_that_ends_does_not_rotate(it):
-    """The host takes the order and ends at once."""
+    """The host takes the order and ends at once, with no other status before: one without a term that serves would say
+    that there is nobody to be served by a newer one."""
     with FakeHost() as host:
         host._rotate = lambda order: (os.unlink(host.file(order)), os.unlink(host.file("socket")))
+        host._close_all = lambda: None
         it.call("rotate", host.path, status=11, err="the host ended before a new term served\n$")
 
 
@@ -109,12 +111,15 @@ def hosts_are_run(it):
             it.call("host", "--program", words, folder.path, *rest, status=3, how=arena_process,
                     out=f"--config c --json --run {folder.path}\n")
         it.call("host", folder.path, status=3, how=arena_process, ARENA_HOST=words, out=f"--run {folder.path}\n")
-        slow = program("slow", "kill -$1 $PPID; sleep 0.3; : > $3/socket",
-                       "for _ in 1 2 3 4 5; do sleep 0.2; [ -e $3/socket ] || exit 0; done; exit 4")
+        # Looks for so many fifths of a second whether its socket is removed: for long where that must come, on any
+        # machine.
+        slow = program("slow", "kill -$1 $PPID; sleep 0.3; : > $4/socket; looks=$2",
+                       "while [ $looks -gt 0 ]; do sleep 0.2; [ -e $4/socket ] || exit 0; looks=$((looks - 1)); done",
+                       "exit 4")
         for name in ("TERM", "INT", "HUP"):  # before there is a socket
-            for handler, status in ((signal.SIG_DFL, 0), (signal.SIG_IGN, 4)):
+            for handler, looks, status in ((signal.SIG_DFL, "300", 0), (signal.SIG_IGN, "5", 4)):
                 before = signal.signal(signal.Signals[f"SIG{name}"], handler)
-                it.call("host", "--program", slow, folder.path, name, status=status, how=arena_process)
+                it.call("host", "--program", slow, folder.path, name, looks, status=status, how=arena_process)
                 signal.signal(signal.Signals[f"SIG{name}"], before)
         killed = program("killed", "kill -9 $$")
         it.call("host", "--program", killed, folder.path, status=137, how=arena_process)

@@ -68,8 +68,10 @@ def numbers_are_shown():
 
 
 def two_readings(folder, every):
-    """Writes a reading, and what writes the next one, which is two seconds younger, at the sleep of so many seconds."""
-    now = time.time() - 3
+    """Writes a reading, and what writes the next one, which is two seconds younger, at the sleep of so many seconds.
+    However long a busy machine takes from one to the other, neither of them is stale, as it would be after five
+    seconds."""
+    now = time.time()
     folder.write(folder.status(term(7, entries=100, asks=10, jobs=1, began=int(now)), at=now), now)
 
     def later(seconds):
