@@ -122,7 +122,7 @@ class StandIn:
 
     def _answer(self, tenant: Tenant, request: dict[str, Any], mine: set[int]) -> dict[str, Any]:
         if request["op"] == "collect":
-            self.go.wait(10)
+            self.go.wait(60)
         with self.lock:
             match request["op"]:
                 case "submit":

@@ -25,7 +25,7 @@ DIVIDES = Program.of([[["div", 2, 0, 1], ["ret", 2]]])
 CELL = Program.of([[["store", 0, 0], ["load", 2, 0], ["ret", 2]]])
 SPAWNS = Program.of([[*[["spawn", 0, 1, 0, 0]] * 3, ["wait", 2, 3, 0], ["ret", 2]], [["ret", 0]]])
 SPAWNS_BESIDE_CELLS = Program.of([[["store", 0, 0], *[["spawn", 0, 1, 0, 0]] * 3, ["wait", 2, 3, 0], ["ret", 2]], [["ret", 0]]])
-SOON = 20.0
+SOON = 60.0
 
 
 class WithDispatcher(unittest.TestCase):
@@ -237,10 +237,15 @@ class Dispatchers(WithDispatcher):
         jobs = self.submit(*range(5))
         while self.host.met["collect"] < 1:
             time.sleep(0.001)
-        with self.queue.base.transaction():
-            self.queue.base.change("UPDATE dispatcher SET until = 0")
         with Turns(self.path, "off") as other:
-            other.turn(other.register("other", SOON), lease=SOON)
+            (number,), = other.base.rows("SELECT id FROM dispatcher")
+            me, deadline = other.register("other", SOON), time.monotonic() + SOON
+            # It may be renewed before it is taken away.
+            while other.base.rows("SELECT 1 FROM dispatcher WHERE id = ?", number):
+                self.assertLess(time.monotonic(), deadline)
+                with other.base.transaction():
+                    other.base.change("UPDATE dispatcher SET until = 0 WHERE id = ?", number)
+                other.turn(me, lease=SOON)
         self.host.go.set()
         self.assertEqual(self.values(jobs), [n * n for n in range(5)])
         self.assertEqual({it.attempts for it in self.queue.listed()}, {2})

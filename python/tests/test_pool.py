@@ -21,7 +21,7 @@ from tests.standin import StandIn
 
 SQUARE = [[["mul", 2, 0, 0], ["ret", 2]]]
 CELL = [[["store", 0, 0], ["load", 2, 0], ["ret", 2]]]
-SOON = 20.0
+SOON = 60.0
 
 
 def job(n: int, procs: list[list[list[object]]] = SQUARE) -> dict[str, object]:
@@ -44,8 +44,10 @@ class WithHost(unittest.TestCase):
         return made
 
     def values(self, pool: Pool, numbers: range) -> list[int]:
-        """The squares of numbers, all under way at once."""
+        """The squares of numbers, all under way at once: none is collected before the last one is begun."""
+        self.host.go.clear()
         futures = [pool.start(job(it)) for it in numbers]
+        self.host.go.set()
         outcomes = [it.result(SOON) for it in futures]
         return [it.value for it in outcomes if isinstance(it, Complete)]
 

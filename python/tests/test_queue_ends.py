@@ -12,6 +12,8 @@ from arena.queue.sqlite import statements
 from arena.queue.turns import Turns
 from tests.with_queue import ANY, CELL, ONE, SOON, TWO, WithQueue
 
+MINUTE = 60 * SECOND
+
 
 class Ends(WithQueue):
     """Outcomes, and attempts without one."""
@@ -58,11 +60,13 @@ class Ends(WithQueue):
             me = self.queue.register("me", SOON)
             self.claim(me)
             self.queue.cancel(cancelled)
+            before = now()
             self.queue.leave(me)
-            delays.append(self.queue.job(kept).run_at - now())
+            run_at, after = self.queue.job(kept).run_at, now()
+            delays.append((run_at - after, run_at - before))  # the delay is between these, however long that took
         self.assertEqual((self.state(kept), self.state(cancelled)), (State.SCHEDULED, State.CANCELED))
-        self.assertLessEqual(delays[0], SECOND // 10)
-        self.assertGreater(delays[4], SECOND // 2)
+        self.assertLessEqual(delays[0][0], SECOND // 10)
+        self.assertGreater(delays[4][1], SECOND // 2)
 
     def test_dead(self) -> None:
         job, = self.submit(NewJob("acme", ONE, most_failures=2))
@@ -169,6 +173,7 @@ class Keeps(WithQueue):
         self.assertEqual(self.queue.stats("beta")["tenants"], {"beta": {"scheduled": 1}})
 
     def test_figures(self) -> None:
+        began = now() // MINUTE
         *_, over = self.ended(4)
         waits, job = self.submit(NewJob("acme", ONE), NewJob("beta", ONE))
         me = self.queue.register("me", SOON)
@@ -176,7 +181,8 @@ class Keeps(WithQueue):
         self.assertGreater(self.queue.age("acme", State.RUNNING), 0)
         self.end(me, Ending(over, 1, State.COMPLETE, 1, tenant="acme", ran=5 * SECOND),
                  Ending(waits, claim.attempt, State.COMPLETE, 1, tenant="acme", ran=2 * SECOND))
-        for minutes in (None, 1, 5):
+        since = now() // MINUTE - began + 1  # one minute, unless the next one has begun meanwhile
+        for minutes in (None, since, since + 4):
             found = self.queue.figures("acme", minutes)
             self.assertEqual([found[it].jobs for it in What], [5, 5, 1], "an outcome that is refused is not counted")
             self.assertEqual((found[What.RAN].within(.5), found[What.RAN].micros), (3.0, 2 * SECOND))
