@@ -1,0 +1,6 @@
+mod Fitting
+mod Following
+mod Sourced
+mod SourcedSteps
+mod EachState
+mod WorkedProofs

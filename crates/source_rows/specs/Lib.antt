@@ -1,0 +1,4 @@
+pub mod Tasks
+pub mod Answering
+pub mod SourceRows
+pub mod Worked
