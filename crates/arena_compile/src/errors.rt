@@ -58,8 +58,7 @@ fn words_of(wrong: Wrong) -> &'static str {
         Wrong::UnknownName => "nothing of this name is known here",
         Wrong::KnownName => "something else has this name already",
         Wrong::TooManyNames => "a function has at most 240 variables",
-        Wrong::NotAssigned =>
-            "only variables and cells are assigned to, and not the index of a `for`",
+        Wrong::NotAssigned => "only variables and cells are assigned to, and no index of a loop",
         Wrong::NoConstant => "the value of a constant is made of numbers and of constants above it",
         Wrong::NoStep => "the step of a `for` is a constant that is not 0",
         Wrong::NoGrain => "the grain of a parallel loop is a constant from 1",
@@ -77,8 +76,7 @@ fn words_of(wrong: Wrong) -> &'static str {
         Wrong::NoLoop => "there is no loop around this",
         Wrong::NotGathered => "`give` belongs into the body of a parallel loop: write `return`",
         Wrong::GatheringReturn => "the body of a parallel loop ends by `give`, not by `return`",
-        Wrong::KnownFunction =>
-            "a function of this name is there already, or `main` is not the first one",
+        Wrong::KnownFunction => "a function has this name already, or `main` is not the first one",
         Wrong::UnknownFunction => "no function of this name is there",
         Wrong::ArgumentCount => "a function gets as many arguments as it has parameters",
         Wrong::NotWaited =>
@@ -89,8 +87,7 @@ fn words_of(wrong: Wrong) -> &'static str {
         Wrong::GroupValue =>
             "what a group adds up to is read alone: write `let x = wait g` before this",
         Wrong::NotGroup => "no group of this name, nor a task to cancel, is there to be waited for",
-        Wrong::TaskLeft =>
-            "a task or a group of this block is not waited for before the block ends",
+        Wrong::TaskLeft => "a task or a group of this block is not waited for before it ends",
         Wrong::NoGroup =>
             "no group is left: wait for a task before, since 3 at most may be there that were not waited for",
         Wrong::TooManyFunctions => "a job has at most 16 functions, and each parallel loop is one",

@@ -17,7 +17,9 @@ use Rattle.source_reader.specs.declared.names.Names.TheVariants as names
 use Rattle.source_reader.specs.declared.headers.Header.{Header}
 use Rattle.source_reader.specs.Trees.{InlineTree, inline_tree_of}
 
--- `Waited` stands behind a wait for the task of a group, `Inner` is the beginning of a block inside the function's own, and `Gathering` that of the body of a parallel loop, which is its function's own. `Asked` stands behind what gives a value inside another one: how many tokens are left where it begins, and behind it, and the variable that has its value.
+-- `Waited` stands behind a wait for the task of a group, and `Inner` is the beginning of a block inside the function's own.
+-- `Gathering` is the beginning of the body of a parallel loop, which is its function's own.
+-- `Asked` stands behind what gives a value inside another one: how many tokens are left where it begins, and behind it, and the variable that has its value.
 pub data Scope : Type 0 where
   Functions : List Header → Scope
   WithName : ℕ → Meaning → Scope → Scope

@@ -4,12 +4,13 @@ ghost use Rattle.source_language.specs.declared.syntax.Operator.TheVariants as o
 ghost use Rattle.source_reader.specs.Faults.{Gives};
 ghost use Rattle.source_reader.specs.Trees.{tree_of, test_tree_of, value_tree_of, NotTree, BothTree, EitherTree, TruthTree};
 ghost use Rattle.source_reader.specs.Joining.{level_of, number_in, test_in, operation, minus, complement, joined, a_number, a_difference};
+ghost use Rattle.source_reader.specs.Values.{sign_at};
 
 use crate::faults::{ReadError, Wrong, fault_at};
 use crate::folding::two_of;
 use crate::truths::{bit_of, may_skip};
 use source_language::{Expr, Operator, Test};
-use source_tokens::{Sign, Token};
+use source_tokens::{Kind, Sign, Token};
 use std::alloc::{AllocError, Global};
 
 /// A value: a number, or a condition.
@@ -20,7 +21,7 @@ pub(crate) enum Value {
 }
 
 /// How tight an operator binds.
-pub(crate) fn level_of(sign: Sign) -> u8
+fn level_of(sign: Sign) -> u8
     ensures { result ≡ level_of sign }
 {
     match sign {
@@ -42,6 +43,25 @@ pub(crate) fn level_of(sign: Sign) -> u8
         Sign::Times => 8,
         Sign::Over => 8,
         Sign::Remainder => 8,
+    }
+}
+
+/// The operator of that level at the front.
+pub(crate) fn sign_at(level: u8, tokens: &[Token]) -> Option<Sign>
+    ensures { result ≡ sign_at level tokens.now }
+{
+    match tokens.split_first() {
+        Some((first, _)) => match first.kind {
+            Kind::Sign(sign) => {
+                if level_of(sign) == level {
+                    Some(sign)
+                } else {
+                    None
+                }
+            }
+            _ => None,
+        },
+        None => None,
     }
 }
 

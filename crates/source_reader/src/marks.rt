@@ -1,5 +1,5 @@
 // Parentheses and commas around values.
-ghost use Rattle.std.specs.Prelude.{◌≡◌, drop};
+ghost use Rattle.std.specs.Prelude.{◌≡◌, ◌-◌, drop, length};
 ghost use Rattle.source_reader.specs.Faults.{Gives};
 ghost use Rattle.source_reader.specs.Marks.{after_open, after_close, is_close, after_last, before_next};
 
@@ -40,6 +40,14 @@ pub(crate) fn after_first(tokens: &[Token]) -> &[Token]
         Some((_, rest)) => rest,
         None => tokens,
     }
+}
+
+/// The tokens where so many are left.
+pub(crate) fn left_behind(tokens: &[Token], left: usize) -> &[Token]
+    ensures { result.now ≡ drop (length tokens.now - left) tokens.now }
+{
+    let gone = tokens.len().saturating_sub(left);
+    tokens.split_at(gone).1
 }
 
 /// Whether there is a `)` at the front.

@@ -1,14 +1,16 @@
 // Values: operators of nine levels between numbers, variables and values in parentheses.
-ghost use Rattle.std.specs.Prelude.{◌≡◌, ◌-◌, drop, length, map};
+ghost use Rattle.std.specs.Prelude.{◌≡◌, map};
 ghost use Rattle.source_reader.specs.Faults.{Gives};
 ghost use Rattle.source_reader.specs.Trees.{tree_of, value_tree_of, inline_tree_of};
 ghost use Rattle.source_reader.specs.Names.{names_of, meaning_of};
-ghost use Rattle.source_reader.specs.Values.{sign_at, has_opposite, worth, named, awaited_value, without_arguments, applied, behind_argument, value_at, whole_value, Level, More, Single, Argument};
+ghost use Rattle.source_reader.specs.Values.{has_opposite, worth, named, awaited_value, without_arguments, applied, behind_argument, value_at, whole_value, Level, More, Single, Argument};
 
 use crate::faults::{ReadError, Wrong, fault_at};
 use crate::inlines::{Inline, given_in, inserted, no_argument};
-use crate::joining::{Value, complement, joined, level_of, minus, opposite};
-use crate::marks::{after_close, after_first, after_last, after_open, before_next, is_close};
+use crate::joining::{Value, complement, joined, minus, opposite, sign_at};
+use crate::marks::{
+    after_close, after_first, after_last, after_open, before_next, is_close, left_behind,
+};
 use crate::names::{Meaning, Names, asked_in, inline_of, meaning_of};
 use crate::waits::awaited_at;
 use source_language::Expr;
@@ -20,25 +22,6 @@ pub const VALUE_FUEL: u16 = 600;
 
 /// The level above the tightest operators.
 const LEVELS: u8 = 9;
-
-/// The operator of that level at the front.
-fn sign_at(level: u8, tokens: &[Token]) -> Option<Sign>
-    ensures { result ≡ sign_at level tokens.now }
-{
-    match tokens.split_first() {
-        Some((first, _)) => match first.kind {
-            Kind::Sign(sign) => {
-                if level_of(sign) == level {
-                    Some(sign)
-                } else {
-                    None
-                }
-            }
-            _ => None,
-        },
-        None => None,
-    }
-}
 
 /// Whether a minus sign may stand before this. The opposite of 2^63 is a number, but not those of the numbers above.
 fn has_opposite(tokens: &[Token]) -> bool
@@ -153,14 +136,6 @@ fn more_at<'a>(
             more_at(alloc, names, fuel - 1, level, both, rest)
         }
     }
-}
-
-/// The tokens where so many are left.
-fn left_behind(tokens: &[Token], left: usize) -> &[Token]
-    ensures { result.now ≡ drop (length tokens.now - left) tokens.now }
-{
-    let gone = tokens.len().saturating_sub(left);
-    tokens.split_at(gone).1
 }
 
 /// A value without operators, or with one before it.
