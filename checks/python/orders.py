@@ -9,6 +9,7 @@ import os
 import re
 import signal
 import sys
+import time
 
 sys.path.insert(0, os.path.abspath("python"))
 
@@ -88,12 +89,13 @@ def orders_need_a_host(it):
 
 
 def host_that_ends_does_not_rotate(it):
-    """The host takes the order and ends at once, with no other status before: one without a term that serves would say
-    that there is nobody to be served by a newer one."""
-    with FakeHost() as host:
-        host._rotate = lambda order: (os.unlink(host.file(order)), os.unlink(host.file("socket")))
-        host._close_all = lambda: None
-        it.call("rotate", host.path, status=11, err="the host ended before a new term served\n$")
+    """The host takes the order and ends at once, without a status, or with a last one in which nobody is served, some time
+    before it gives its lock back."""
+    for last_status in (False, True):
+        with FakeHost() as host:
+            host._rotate = lambda order: (os.unlink(host.file(order)), os.unlink(host.file("socket")))
+            host._close_all = lambda: (FakeHost._close_all(host), time.sleep(0.3)) if last_status else None
+            it.call("rotate", host.path, status=11, err="the host ended before a new term served\n$")
 
 
 def hosts_are_run(it):

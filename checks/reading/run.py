@@ -23,6 +23,7 @@ PROMISES = [
     ("functions that are compiled", ["job_compiler::compile_function", "job_compiler::compile_in", "job_compiler::compile_program"]),
     ("functions whose registers are chosen", ["register_choice::compile_function", "register_choice::compile_in", "register_choice::compile_program", "register_choice::is_coloured"]),
     ("values of functions", ["source_serial::value", "source_serial::source_values", "source_serial::jobs_have_source_values"]),
+    ("rows of functions", ["source_rows::rows_follow_source", "source_rows::advances_follow_source"]),
     ("values of sources", ["source_value::texts_have_values", "source_value::texts_have_one_value", "source_value::value_of_source", "source_value::reply_of_source", "source_value::reply_line_of_source"]),
     ("the line of a source's job", ["arena_compile::job_line"]),
     ("lines in", ["request_reader::LineReader", "request_reader::read_request"]),

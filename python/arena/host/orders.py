@@ -67,11 +67,13 @@ def rotate(folder: RunFolder, wait: float, tenant: str | None = None) -> Rotated
         os.close(os.open(order, os.O_WRONLY | os.O_CREAT | os.O_EXCL | os.O_CLOEXEC, 0o600))
 
     def newer() -> bool:
-        """Whether the order was taken, and each tenant that is still served is served by a newer term."""
+        """Whether the order was taken, and each tenant that is still served is served by a newer term. A host that ends
+        serves nobody any more, which is no newer term; it has lost its socket."""
         if not folder.is_held():
             raise NoHost(f"{folder.path}: the host ended before a new term served")
-        serving = _serving(folder)
-        return not os.path.exists(order) and all(serving.get(it, before[it] + 1) > before[it] for it in wanted)
+        serving, goes_on = _serving(folder), os.path.exists(folder.socket)
+        are_newer = all(serving[it] > before[it] if it in serving else goes_on for it in wanted)
+        return are_newer and not os.path.exists(order)
 
     if not _comes(newer, wait):
         raise NotYet(_why_not(folder, order, wait))
