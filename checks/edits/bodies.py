@@ -6,6 +6,7 @@ import re
 NAME = re.compile(r"## (\w+)")
 PLACE = re.compile(r"In `(src/[\w/]+\.rt)`, `([\w:+]+)`:")
 OLD, NEW = "    old: ", "    new:"
+HEAD = re.compile(r"^ *(?:pub(?:\([a-z]+\))? )?fn (\w+)", re.M)
 
 
 class PageError(Exception):
@@ -24,10 +25,14 @@ class WrongBody:
     def plant(self, texts: dict[str, str], crate: pathlib.Path) -> None:
         """Puts the body into the text of its file, which is read if it is not among the texts yet."""
         text = texts[self.file] if self.file in texts else (crate / self.file).read_text()
+        homes = set[str]()
         for old, new in self.pairs:
             if text.count(old) != 1:
                 raise PageError(f"{self.name}: an old text is in {self.file} {text.count(old)} times, and not once: {old}")
+            homes |= set(HEAD.findall(text[:text.index(old) + len(old)])[-1:])
             text = text.replace(old, new)
+        if self.function.split("::")[-1] not in homes:
+            raise PageError(f"{self.name}: no old text is in {self.function}, but in {', '.join(homes) or 'no function'}")
         texts[self.file] = text
 
 
