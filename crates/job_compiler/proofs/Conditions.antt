@@ -1,20 +1,43 @@
 -- What the code of a condition does.
-use Rattle.std.proofs.Common.{◌≡◌, ℕ, zero, suc, ◌+◌, ◌<◌, ◌≤◌, ◌^◌, ℤ, pos, negsuc, Bool, true, false, not, if◌then◌else◌, List, [], length, Option, Some, None, option_map, refl, ap, subst, ◌∙◌}
+use Rattle.std.proofs.Common.{◌≡◌, ℕ, zero, suc, ◌+◌, ◌<◌, ◌≤◌, ◌^◌, ℤ, pos, negsuc, Bool, true, false, not, if◌then◌else◌, List, [], ◌∷◌, ◌++◌, length, Option, Some, None, option_map, refl, ap, subst, ◌∙◌, FitsSigned, Box, Global}
 use Rattle.std.proofs.Common.{arith, length-append}
+use Rattle.std.specs.Int.{w64}
 use Rattle.std.specs.Prelude.{slice_get, slice_index_or}
 use Rattle.job_compiler.specs.Colours.{WritesBelow}
 use Rattle.job_language.specs.declared.instructions.Instr.{Instr}
 use Rattle.job_language.specs.declared.instructions.Instr.TheVariants as instr
+use Rattle.source_language.specs.declared.syntax.Operator.{Operator}
+use Rattle.source_language.specs.declared.syntax.Operator.TheVariants.{Plus, Minus, Times, Over, Remainder, BitAnd, BitOr, BitXor, ShiftLeft, ShiftRight, Below, AtMost, Equal}
+use Rattle.source_language.specs.declared.syntax.Expr.{Expr}
+use Rattle.source_language.specs.declared.syntax.Expr.TheVariants.{Number, Variable, Slot, Width, Two'}
 use Rattle.source_language.specs.declared.syntax.Test.{Test}
 use Rattle.source_language.specs.declared.syntax.Test.TheVariants.{Holds, Not', Both', Either'}
-use Rattle.source_language.specs.Meaning.{is_nought, value_of, if_true, if_false, test_of}
-use Rattle.job_compiler.specs.Within.{IsTestWithin}
-use Rattle.job_compiler.specs.Code.{operand, operand_code, jump_instrs, test_size, test_code}
-use Rattle.job_compiler.proofs.Steps.{AreAllKept, Agree, at, HasAt, has_front, has_back, Comes, Fails, comes_on, fails_on, one_step, BringsIf, Brings, operand_runs, still}
+use Rattle.source_language.specs.Meaning.{is_nought, result_of, on_both, value_of, if_true, if_false, test_of}
+use Rattle.job_compiler.specs.Within.{IsWithin, IsTestWithin}
+use Rattle.job_compiler.specs.Code.{op_instr, operand, above, operand_code, opposed, opposed_code, holds_code, jumps, test_size, test_code}
+use Rattle.job_compiler.proofs.Opposites.{AreOpposed, below_opposed, at_most_opposed, equal_opposed, minus_opposed}
+use Rattle.job_compiler.proofs.Values.{FitsIf, value_fits}
+use Rattle.job_compiler.proofs.Steps.{AreAllKept, Agree, at, HasAt, has_front, has_back, Comes, Fails, comes_on, fails_on, one_step, BringsIf, Brings, operand_runs, exchanged_runs, still}
+
+opposed_length : (o : Operator) (e : Expr) (t : ℕ) → length (opposed_code o e t) ≡ length (operand_code e t)
+opposed_length o (Number z) t = refl
+opposed_length o (Variable x) t = refl
+opposed_length o Slot t = refl
+opposed_length o Width t = refl
+opposed_length o (Two' op p a q b) t =
+    let ca = operand_code a t in
+    let cb = operand_code b (above a t) in
+    let i = op_instr op t (operand a t) (operand b (above a t)) in
+    let j = op_instr o t (operand b (above a t)) (operand a t) in
+    omega (arith, length-append ca (cb ++ i ∷ []), length-append cb (i ∷ []), length-append ca (cb ++ j ∷ []), length-append cb (j ∷ []))
+
+holds_length : (w : Bool) (o : Option Operator) (e : Expr) (to t at : ℕ) → length (holds_code w o e to t at) ≡ length (operand_code e t) + jumps w o
+holds_length false o e to t at = length-append (operand_code e t) (instr.Jz (operand e t) to ∷ [])
+holds_length true None e to t at = length-append (operand_code e t) (instr.Jz (operand e t) (at + length (operand_code e t) + 2) ∷ instr.Jmp to ∷ [])
+holds_length true (Some o) e to t at = length-append (opposed_code o e t) (instr.Jz t to ∷ []) ∙ ap (λ k. k + 1) (opposed_length o e t)
 
 pub test_length : (c : Test) (w : Bool) (to t at : ℕ) → length (test_code c w to t at) ≡ test_size c w t
-test_length (Holds e) true to t at = length-append (operand_code e t) (jump_instrs true (operand e t) to (at + length (operand_code e t)))
-test_length (Holds e) false to t at = length-append (operand_code e t) (jump_instrs false (operand e t) to (at + length (operand_code e t)))
+test_length (Holds e) w to t at = holds_length w (opposed e) e to t at
 test_length (Not' p c) w to t at = test_length c (not w) to t at
 test_length (Both' p a q b) w to t at =
     let m = at + test_size a false t in
@@ -75,25 +98,50 @@ module _ (procs : List (List Instr)) (slot width p size : ℕ) where
       → (c : Comes procs slot width p size (at procs slot width p size pc1 b.regs') (at procs slot width p size pc2 b.regs')) → 0 < c.steps → Jumps pc pc2 regs t
   jump pc pc1 pc2 r t regs v b c some = record { regs' = b.regs'; comes = comes_on procs slot width p size _ _ _ b.comes c; some = omega (arith, some); long = b.long; kept = b.kept }
 
-  holds_runs : (w : Bool) (to r pc pc1 t : ℕ) (regs : List ℤ) (o : Option ℤ) → HasAt procs slot width p size pc1 (jump_instrs w r to pc1) → BringsIf procs slot width p size pc pc1 regs r t o
-      → JumpsIf pc to (pc1 + (if w then 2 else 1)) regs t w (option_map (λ v. not (is_nought v)) o)
-  holds_runs w to r pc pc1 t regs None has b = b
-  holds_runs false to r pc pc1 t regs (Some (pos zero)) has b = jump pc pc1 to r t regs (pos zero) b
-      (one_step procs slot width p size pc1 b.regs' (instr.Jz r to) (at procs slot width p size to b.regs') has.0 (rw b.value refl)) (omega arith)
-  holds_runs false to r pc pc1 t regs (Some (pos (suc n))) has b = jump pc pc1 (pc1 + 1) r t regs (pos (suc n)) b
-      (one_step procs slot width p size pc1 b.regs' (instr.Jz r to) (at procs slot width p size (pc1 + 1) b.regs') has.0 (rw b.value refl)) (omega arith)
-  holds_runs false to r pc pc1 t regs (Some (negsuc n)) has b = jump pc pc1 (pc1 + 1) r t regs (negsuc n) b
-      (one_step procs slot width p size pc1 b.regs' (instr.Jz r to) (at procs slot width p size (pc1 + 1) b.regs') has.0 (rw b.value refl)) (omega arith)
-  holds_runs true to r pc pc1 t regs (Some (pos zero)) has b = jump pc pc1 (pc1 + 2) r t regs (pos zero) b
+  -- a jump if the value is 0
+  not_runs : (to r pc pc1 t : ℕ) (regs : List ℤ) (o : Option ℤ) → slice_get (slice_index_or procs p []) pc1 ≡ Some (instr.Jz r to) → BringsIf procs slot width p size pc pc1 regs r t o
+      → JumpsIf pc to (pc1 + 1) regs t false (option_map (λ v. not (is_nought v)) o)
+  not_runs to r pc pc1 t regs None here b = b
+  not_runs to r pc pc1 t regs (Some (pos zero)) here b = jump pc pc1 to r t regs (pos zero) b
+      (one_step procs slot width p size pc1 b.regs' (instr.Jz r to) (at procs slot width p size to b.regs') here (rw b.value refl)) (omega arith)
+  not_runs to r pc pc1 t regs (Some (pos (suc n))) here b = jump pc pc1 (pc1 + 1) r t regs (pos (suc n)) b
+      (one_step procs slot width p size pc1 b.regs' (instr.Jz r to) (at procs slot width p size (pc1 + 1) b.regs') here (rw b.value refl)) (omega arith)
+  not_runs to r pc pc1 t regs (Some (negsuc n)) here b = jump pc pc1 (pc1 + 1) r t regs (negsuc n) b
+      (one_step procs slot width p size pc1 b.regs' (instr.Jz r to) (at procs slot width p size (pc1 + 1) b.regs') here (rw b.value refl)) (omega arith)
+
+  -- a jump if it is not 0, past another one
+  past_runs : (to r pc pc1 t : ℕ) (regs : List ℤ) (o : Option ℤ) → HasAt procs slot width p size pc1 (instr.Jz r (pc1 + 2) ∷ instr.Jmp to ∷ []) → BringsIf procs slot width p size pc pc1 regs r t o
+      → JumpsIf pc to (pc1 + 2) regs t true (option_map (λ v. not (is_nought v)) o)
+  past_runs to r pc pc1 t regs None has b = b
+  past_runs to r pc pc1 t regs (Some (pos zero)) has b = jump pc pc1 (pc1 + 2) r t regs (pos zero) b
       (one_step procs slot width p size pc1 b.regs' (instr.Jz r (pc1 + 2)) (at procs slot width p size (pc1 + 2) b.regs') has.0 (rw b.value refl)) (omega arith)
-  holds_runs true to r pc pc1 t regs (Some (pos (suc n))) has b =
+  past_runs to r pc pc1 t regs (Some (pos (suc n))) has b =
       jump pc pc1 to r t regs (pos (suc n)) b (comes_on procs slot width p size _ _ _
       (one_step procs slot width p size pc1 b.regs' (instr.Jz r (pc1 + 2)) (at procs slot width p size (pc1 + 1) b.regs') has.0 (rw b.value refl))
       (one_step procs slot width p size (pc1 + 1) b.regs' (instr.Jmp to) (at procs slot width p size to b.regs') has.1.0 refl)) (omega arith)
-  holds_runs true to r pc pc1 t regs (Some (negsuc n)) has b =
+  past_runs to r pc pc1 t regs (Some (negsuc n)) has b =
       jump pc pc1 to r t regs (negsuc n) b (comes_on procs slot width p size _ _ _
       (one_step procs slot width p size pc1 b.regs' (instr.Jz r (pc1 + 2)) (at procs slot width p size (pc1 + 1) b.regs') has.0 (rw b.value refl))
       (one_step procs slot width p size (pc1 + 1) b.regs' (instr.Jmp to) (at procs slot width p size to b.regs') has.1.0 refl)) (omega arith)
+
+  -- a jump if what is opposed to a value is 0
+  result_runs : (o other : Option ℤ) (to pc pc1 t : ℕ) (regs : List ℤ) → AreOpposed o other → slice_get (slice_index_or procs p []) pc1 ≡ Some (instr.Jz t to)
+      → BringsIf procs slot width p size pc pc1 regs t t other → JumpsIf pc to (pc1 + 1) regs t true (option_map (λ v. not (is_nought v)) o)
+  result_runs None other to pc pc1 t regs are here b = absurd are
+  result_runs (Some v) None to pc pc1 t regs are here b = absurd are
+  result_runs (Some v) (Some (pos zero)) to pc pc1 t regs are here b = subst (λ k. JumpsIf pc to (pc1 + 1) regs t true (Some k)) are (jump pc pc1 to t t regs (pos zero) b
+      (one_step procs slot width p size pc1 b.regs' (instr.Jz t to) (at procs slot width p size to b.regs') here (rw b.value refl)) (omega arith))
+  result_runs (Some v) (Some (pos (suc n))) to pc pc1 t regs are here b = subst (λ k. JumpsIf pc to (pc1 + 1) regs t true (Some k)) are (jump pc pc1 (pc1 + 1) t t regs (pos (suc n)) b
+      (one_step procs slot width p size pc1 b.regs' (instr.Jz t to) (at procs slot width p size (pc1 + 1) b.regs') here (rw b.value refl)) (omega arith))
+  result_runs (Some v) (Some (negsuc n)) to pc pc1 t regs are here b = subst (λ k. JumpsIf pc to (pc1 + 1) regs t true (Some k)) are (jump pc pc1 (pc1 + 1) t t regs (negsuc n) b
+      (one_step procs slot width p size pc1 b.regs' (instr.Jz t to) (at procs slot width p size (pc1 + 1) b.regs') here (rw b.value refl)) (omega arith))
+
+  opposed_runs : (op o : Operator) → ((x y : ℤ) → FitsSigned w64 x → FitsSigned w64 y → AreOpposed (result_of op x y) (result_of o y x)) → (to pc pc1 t : ℕ) (regs : List ℤ) (oa ob : Option ℤ)
+      → FitsIf oa → FitsIf ob → slice_get (slice_index_or procs p []) pc1 ≡ Some (instr.Jz t to) → BringsIf procs slot width p size pc pc1 regs t t (on_both (λ x y. result_of o y x) oa ob)
+      → JumpsIf pc to (pc1 + 1) regs t true (option_map (λ v. not (is_nought v)) (on_both (result_of op) oa ob))
+  opposed_runs op o are to pc pc1 t regs None ob fa fb here b = b
+  opposed_runs op o are to pc pc1 t regs (Some x) None fa fb here b = b
+  opposed_runs op o are to pc pc1 t regs (Some x) (Some y) fa fb here b = result_runs (result_of op x y) (result_of o y x) to pc pc1 t regs (are x y fa fb) here b
 
   both_run : (w : Bool) (pc m to end : ℕ) (regs : List ℤ) (t : ℕ) (oa ob : Option Bool) → JumpsIf pc (if w then end else to) m regs t false oa
       → ((regs' : List ℤ) → length regs' ≡ size → AreAllKept t regs regs' → JumpsIf m to end regs' t w ob) → JumpsIf pc to end regs t w (if_true oa ob)
@@ -113,13 +161,56 @@ module _ (procs : List (List Instr)) (slot width p size : ℕ) where
   ends_at pc to end end' regs t w o e j = subst (λ q. JumpsIf pc to q regs t w o) e j
 
   module _ (valid : (k : ℕ) (i : Instr) → slice_get (slice_index_or procs p []) k ≡ Some i → WritesBelow size i) (low_slot : slot < 2 ^ 8) (low_width : width < 2 ^ 8) where
+    abbrev SoRuns : Expr → Option Operator → Type 0
+    SoRuns e o = (n to t pc : ℕ) (vars regs : List ℤ) → IsWithin n e → n ≤ t → Agree size n vars regs → HasAt procs slot width p size pc (holds_code true o e to t pc)
+        → JumpsIf pc to (pc + (length (operand_code e t) + jumps true o)) regs t true (test_of (Holds e) slot width vars)
+
+    past : (e : Expr) → SoRuns e None
+    past e n to t pc vars regs h le agree has =
+        let ce = operand_code e t in
+        let e1 : pc + length ce + 2 ≡ pc + (length ce + 2) = omega arith in
+        ends_at pc to _ _ regs t true (test_of (Holds e) slot width vars) e1
+        (past_runs to (operand e t) pc (pc + length ce) t regs (value_of e slot width vars) (has_back procs slot width p size pc ce _ has)
+        (operand_runs procs slot width p size valid low_slot low_width e n t pc vars regs h le agree (has_front procs slot width p size pc ce _ has)))
+
+    exchanged : (op o : Operator) → ((x y : ℤ) → FitsSigned w64 x → FitsSigned w64 y → AreOpposed (result_of op x y) (result_of o y x)) → (q : Box (Unit {0}) Global) (a : Expr)
+        (r : Box (Unit {0}) Global) (b : Expr) → SoRuns (Two' op q a r b) (Some o)
+    exchanged op o are q a r b n to t pc vars regs h le agree has =
+        let co = opposed_code o (Two' op q a r b) t in
+        let e1 : pc + length co + 1 ≡ pc + (length (operand_code (Two' op q a r b) t) + 1) = omega (arith, opposed_length o (Two' op q a r b) t) in
+        ends_at pc to _ _ regs t true (test_of (Holds (Two' op q a r b)) slot width vars) e1
+        (opposed_runs op o are to pc (pc + length co) t regs (value_of a slot width vars) (value_of b slot width vars)
+        (value_fits a n slot width vars low_slot low_width h.0 agree.fit) (value_fits b n slot width vars low_slot low_width h.1 agree.fit)
+        (has_back procs slot width p size pc co _ has).0
+        (exchanged_runs procs slot width p size valid low_slot low_width o a b n t pc vars regs h.0 h.1 le agree (has_front procs slot width p size pc co _ has)))
+
+    so_runs : (e : Expr) → SoRuns e (opposed e)
+    so_runs (Two' Below q a r b) = exchanged Below AtMost (λ x y fx fy. below_opposed x y) q a r b
+    so_runs (Two' AtMost q a r b) = exchanged AtMost Below (λ x y fx fy. at_most_opposed x y) q a r b
+    so_runs (Two' Equal q a r b) = exchanged Equal Minus equal_opposed q a r b
+    so_runs (Two' Minus q a r b) = exchanged Minus Equal minus_opposed q a r b
+    so_runs (Two' Plus q a r b) = past (Two' Plus q a r b)
+    so_runs (Two' Times q a r b) = past (Two' Times q a r b)
+    so_runs (Two' Over q a r b) = past (Two' Over q a r b)
+    so_runs (Two' Remainder q a r b) = past (Two' Remainder q a r b)
+    so_runs (Two' BitAnd q a r b) = past (Two' BitAnd q a r b)
+    so_runs (Two' BitOr q a r b) = past (Two' BitOr q a r b)
+    so_runs (Two' BitXor q a r b) = past (Two' BitXor q a r b)
+    so_runs (Two' ShiftLeft q a r b) = past (Two' ShiftLeft q a r b)
+    so_runs (Two' ShiftRight q a r b) = past (Two' ShiftRight q a r b)
+    so_runs (Number z) = past (Number z)
+    so_runs (Variable x) = past (Variable x)
+    so_runs Slot = past Slot
+    so_runs Width = past Width
+
     pub test_runs : (c : Test) (w : Bool) (n to t pc : ℕ) (vars regs : List ℤ) → IsTestWithin n c → n ≤ t → Agree size n vars regs → HasAt procs slot width p size pc (test_code c w to t pc)
         → JumpsIf pc to (pc + test_size c w t) regs t w (test_of c slot width vars)
-    test_runs (Holds e) w n to t pc vars regs h le agree has =
+    test_runs (Holds e) true n to t pc vars regs h le agree has = so_runs e n to t pc vars regs h le agree has
+    test_runs (Holds e) false n to t pc vars regs h le agree has =
         let ce = operand_code e t in
-        let e1 : pc + length ce + (if w then 2 else 1) ≡ pc + (length ce + (if w then 2 else 1)) = omega arith in
-        ends_at pc to _ _ regs t w (test_of (Holds e) slot width vars) e1
-        (holds_runs w to (operand e t) pc (pc + length ce) t regs (value_of e slot width vars) (has_back procs slot width p size pc ce _ has)
+        let e1 : pc + length ce + 1 ≡ pc + (length ce + 1) = omega arith in
+        ends_at pc to _ _ regs t false (test_of (Holds e) slot width vars) e1
+        (not_runs to (operand e t) pc (pc + length ce) t regs (value_of e slot width vars) (has_back procs slot width p size pc ce _ has).0
         (operand_runs procs slot width p size valid low_slot low_width e n t pc vars regs h le agree (has_front procs slot width p size pc ce _ has)))
     test_runs (Not' q c) w n to t pc vars regs h le agree has = flipped pc to _ regs t w (test_of c slot width vars) (test_runs c (not w) n to t pc vars regs h le agree has)
     test_runs (Both' q a r b) w n to t pc vars regs h le agree has =

@@ -1,5 +1,5 @@
 -- A function whose code is a procedure keeps to the virtual registers.
-use Rattle.std.proofs.Common.{ℕ, suc, ◌+◌, ◌<◌, Bool, true, false, not, if◌then◌else◌, List, [], ◌∷◌, ◌++◌, length, arith, All}
+use Rattle.std.proofs.Common.{ℕ, suc, ◌+◌, ◌<◌, Bool, true, false, not, if◌then◌else◌, List, [], ◌∷◌, ◌++◌, length, Option, Some, None, Box, Global, arith, All}
 use Rattle.std.specs.List.{AllByRecursion}
 use Rattle.job_language.specs.declared.instructions.Instr.{Instr}
 use Rattle.job_language.specs.Program.{IsInRange, IsValidProc}
@@ -17,7 +17,7 @@ use Rattle.source_language.specs.declared.syntax.Stmt.{Stmt}
 use Rattle.source_language.specs.declared.syntax.Stmt.TheVariants.{Skip, Then', Assign, If', Loop', Repeat', Break, Continue, Return, Make, Wait, Cancel, Read, Store}
 use Rattle.source_language.specs.declared.syntax.Function.{Function}
 use Rattle.job_compiler.specs.declared.labels.Label.{Label}
-use Rattle.job_compiler.specs.Code.{op_instr, operand, above, register_for, operand_code, value_code, jump_instrs, test_size, test_code, make_instr, read_instr, stmt_size, stmt_code, loop_test}
+use Rattle.job_compiler.specs.Code.{op_instr, operand, above, register_for, operand_code, value_code, opposed, opposed_code, holds_code, over_size, over_code, test_size, test_code, make_instr, read_instr, stmt_size, stmt_code, loop_test}
 use Rattle.job_compiler.specs.Code.{loop_label, function_code}
 use Rattle.job_compiler.specs.Registers.{IsOperandLow, IsValueLow, IsTestLow, IsMakerLow, IsStmtLow, FitsVirtualRegisters}
 
@@ -69,7 +69,7 @@ module _ (len : ℕ) where
 
   value_low : (e : Expr) (d t : ℕ) → Good (value_code e d t) → (d < 255) × IsValueLow 255 e t
   value_low (Number z) d t h = (up d h.0.0, tt)
-  value_low (Variable x) d t h = (up d h.1.0.0, (up x h.1.0.1, up t h.0.0))
+  value_low (Variable x) d t h = (up d h.0.0, up x h.0.1)
   value_low Slot d t h = (up d h.0, tt)
   value_low Width d t h = (up d h.0, tt)
   value_low (Two' op p a q b) d t h =
@@ -79,13 +79,30 @@ module _ (len : ℕ) where
       let o = op_low op d (operand a t) (operand b (above a t)) (back cb _ hb) in
       (up d o.0, (operand_low a t (front ca _ h) o.1, operand_low b (above a t) (front cb _ hb) o.2))
 
-  jump_low : (w : Bool) (r to at : ℕ) → Good (jump_instrs w r to at) → r < 8
-  jump_low true r to at h = h.0.0
-  jump_low false r to at h = h.0.0
+  past_low : (e : Expr) (to t at : ℕ) → Good (holds_code true None e to t at) → IsOperandLow 255 e t
+  past_low e to t at h = let ce = operand_code e t in operand_low e t (front ce _ h) (back ce _ h).0.0
+
+  two_low : (o : Option Operator) (op : Operator) (p : Box (Unit {0}) Global) (a : Expr) (q : Box (Unit {0}) Global) (b : Expr) (to t at : ℕ) → Good (holds_code true o (Two' op p a q b) to t at)
+      → IsOperandLow 255 (Two' op p a q b) t
+  two_low None op p a q b to t at h = past_low (Two' op p a q b) to t at h
+  two_low (Some o) op p a q b to t at h =
+      let ca = operand_code a t in
+      let cb = operand_code b (above a t) in
+      let code = front (opposed_code o (Two' op p a q b) t) _ h in
+      let hb = back ca _ code in
+      let r = op_low o t (operand b (above a t)) (operand a t) (back cb _ hb) in
+      (operand_low a t (front ca _ code) r.2, operand_low b (above a t) (front cb _ hb) r.1, up t r.0)
+
+  so_low : (e : Expr) (to t at : ℕ) → Good (holds_code true (opposed e) e to t at) → IsOperandLow 255 e t
+  so_low (Number z) to t at h = past_low (Number z) to t at h
+  so_low (Variable x) to t at h = past_low (Variable x) to t at h
+  so_low Slot to t at h = past_low Slot to t at h
+  so_low Width to t at h = past_low Width to t at h
+  so_low (Two' op p a q b) to t at h = two_low (opposed (Two' op p a q b)) op p a q b to t at h
 
   test_low : (c : Test) (w : Bool) (to t at : ℕ) → Good (test_code c w to t at) → IsTestLow 255 c t
-  test_low (Holds e) w to t at h =
-      let ce = operand_code e t in operand_low e t (front ce _ h) (jump_low w (operand e t) to (at + length ce) (back ce _ h))
+  test_low (Holds e) true to t at h = so_low e to t at h
+  test_low (Holds e) false to t at h = let ce = operand_code e t in operand_low e t (front ce _ h) (back ce _ h).0.0
   test_low (Not' p c) w to t at h = test_low c (not w) to t at h
   test_low (Both' p a q b) w to t at h =
       let m = at + test_size a false t in
@@ -117,11 +134,15 @@ module _ (len : ℕ) where
   stmt_low (Assign x e) t at labels ret h = value_low e x t h
   stmt_low (If' c p a q b) t at labels ret h =
       let m = at + test_size c false t in
-      let other = m + stmt_size a t + 1 in
+      let other = m + stmt_size a t + over_size (stmt_size b t) in
       let ct = test_code c false other t at in
       let ca = stmt_code a t m labels ret in
       let h2 = back ct _ h in
-      (test_low c false other t at (front ct _ h), stmt_low a t m labels ret (front ca _ h2), stmt_low b t other labels ret (back ca _ h2).1)
+      (
+        test_low c false other t at (front ct _ h),
+        stmt_low a t m labels ret (front ca _ h2),
+        stmt_low b t other labels ret (back (over_code (stmt_size b t) (other + stmt_size b t)) _ (back ca _ h2)),
+      )
   stmt_low (Loop' c p b q s) t at labels ret h =
       let k = at + 1 in
       let cb = stmt_code b t k (loop_label c b s t k ∷ labels) ret in

@@ -1,7 +1,7 @@
 -- A frame that has come to where a function is does what the function does next.
-use Rattle.std.proofs.Common.{◌≡◌, ℕ, ◌+◌, ◌<◌, ◌≤◌, ◌^◌, ℤ, pos, Bool, true, false, true≢false, List, [], ◌∷◌, ◌++◌, length, get_or, set, Option, Some, None, refl, sym, ap, subst, ◌∙◌, arith, inl}
-use Rattle.std.proofs.Common.{inr, length-set, FitsSigned}
-use Rattle.std.specs.Prelude.{slice_get, slice_set, slice_index_or}
+use Rattle.std.proofs.Common.{◌≡◌, ℕ, ◌+◌, ◌<◌, ◌≤◌, ◌^◌, ℤ, pos, Bool, true, false, true≢false, if◌then◌else◌, List, [], ◌∷◌, ◌++◌, length, get_or, set, Option, Some, None, refl, sym, ap, subst, ◌∙◌, arith, inl}
+use Rattle.std.proofs.Common.{inr, ltb-false, length-set, FitsSigned}
+use Rattle.std.specs.Prelude.{nat_lt, slice_get, slice_set, slice_index_or}
 use Rattle.std.specs.Int.{w64}
 use Rattle.job_compiler.specs.Colours.{WritesBelow}
 use Rattle.job_language.specs.declared.instructions.Instr.{Instr}
@@ -20,7 +20,7 @@ use Rattle.source_language.specs.declared.syntax.Question.TheVariants.{Cancelled
 use Rattle.source_language.specs.Meaning.{Returns, Stores, Todo, Do, Turn, Next, Point, Act, Does, next_turn, past_loop, with_value, with_test, goes, made_by, asked_by, put_into, act_of, act_on}
 use Rattle.source_language.specs.Meaning.{answered, value_of, test_of}
 use Rattle.job_compiler.specs.Within.{IsStmtWithin, IsMakerWithin}
-use Rattle.job_compiler.specs.Code.{operand, operand_code, above, value_code, make_instr, read_instr, test_size, test_code, stmt_size, loop_test, loop_end, loop_label, after_of, next_of, register_for}
+use Rattle.job_compiler.specs.Code.{operand, operand_code, above, value_code, make_instr, read_instr, over_size, over_code, test_size, test_code, stmt_size, loop_test, loop_end, loop_label, after_of, next_of, register_for}
 use Rattle.job_compiler.specs.Code.{stmt_code}
 use Rattle.job_compiler.specs.declared.labels.Label.{Label}
 use Rattle.job_compiler.specs.Operations.{operation_of, resumed}
@@ -28,7 +28,7 @@ use Rattle.job_compiler.proofs.Values.{FitsIf, value_fits}
 use Rattle.job_compiler.proofs.Steps.{AreAllKept, Agree, at, HasAt, has_front, has_back, Comes, comes_on, fails_on, stays, one_step, write, WritesIf, BringsIf, value_runs, operand_runs, operand_low}
 use Rattle.job_compiler.proofs.Steps.{above_high, still}
 use Rattle.job_compiler.proofs.Conditions.{JumpsIf, test_runs, test_length}
-use Rattle.job_compiler.proofs.Stands.{stmt_length, agree_written, agree_set, agree_put, put_long, Reaches, IsLoop, IsAt, past_place, next_place, Stands, Stops, Follows, continues, resumes_at}
+use Rattle.job_compiler.proofs.Stands.{over_length, stmt_length, agree_written, agree_set, agree_put, put_long, Reaches, IsLoop, IsAt, past_place, next_place, Stands, Stops, Follows, continues, resumes_at}
 
 abbrev pt : List ℤ → List Todo → Point
 pt vars todo = record { vars = vars; todo = todo }
@@ -48,48 +48,64 @@ module _ (procs : List (List Instr)) (slot width p size n ret : ℕ) where
       continues procs slot width p size n ret f _ (pt (set vars x v) rest) s s.labels h.2 w.regs' (comes_on procs slot width p size _ _ _ w.comes (h.3 w.regs')) h.4
       (agree_written size n x v vars s.regs w.regs' s.agree s.long h.0.0 w.long w.value w.kept fits) (length-set vars x v ∙ s.long) (inl (omega (arith, w.some)))
 
-  -- the two sides of a choice
+  -- the two sides of a choice, and how the first one ends
   record Sides (c : Test) (a b : Stmt) (labels : List Label) (q : ℕ) : Type 0 where
     first : HasAt procs slot width p size (q + test_size c false n) (stmt_code a n (q + test_size c false n) labels ret)
-    jump : slice_get (slice_index_or procs p []) (q + test_size c false n + stmt_size a n) ≡ Some (ins.Jmp (q + test_size c false n + stmt_size a n + 1 + stmt_size b n))
-    second : HasAt procs slot width p size (q + test_size c false n + stmt_size a n + 1) (stmt_code b n (q + test_size c false n + stmt_size a n + 1) labels ret)
+    over : HasAt procs slot width p size (q + test_size c false n + stmt_size a n)
+        (over_code (stmt_size b n) (q + test_size c false n + stmt_size a n + over_size (stmt_size b n) + stmt_size b n))
+    second : HasAt procs slot width p size (q + test_size c false n + stmt_size a n + over_size (stmt_size b n))
+        (stmt_code b n (q + test_size c false n + stmt_size a n + over_size (stmt_size b n)) labels ret)
 
-  sides : (c : Test) (a b : Stmt) (labels : List Label) (q other : ℕ) (j : Instr)
-      → HasAt procs slot width p size q (test_code c false other n q ++
-      (stmt_code a n (q + test_size c false n) labels ret ++ j ∷ stmt_code b n (q + test_size c false n + stmt_size a n + 1) labels ret)) → j
-      ≡ ins.Jmp (q + test_size c false n + stmt_size a n + 1 + stmt_size b n) → Sides c a b labels q
-  sides c a b labels q other j has e =
+  sides : (c : Test) (a b : Stmt) (labels : List Label) (q other : ℕ) (co cb : List Instr)
+      → HasAt procs slot width p size q (test_code c false other n q ++ (stmt_code a n (q + test_size c false n) labels ret ++ (co ++ cb)))
+      → co ≡ over_code (stmt_size b n) (q + test_size c false n + stmt_size a n + over_size (stmt_size b n) + stmt_size b n)
+      → cb ≡ stmt_code b n (q + test_size c false n + stmt_size a n + over_size (stmt_size b n)) labels ret → Sides c a b labels q
+  sides c a b labels q other co cb has eo eb =
       let m = q + test_size c false n in
       let ct = test_code c false other n q in
       let ca = stmt_code a n m labels ret in
-      let cb = stmt_code b n (m + stmt_size a n + 1) labels ret in
-      let h2 : HasAt procs slot width p size m (ca ++ j ∷ cb) = subst (λ k. HasAt procs slot width p size k (ca ++ j ∷ cb)) (ap (λ k. q + k) (test_length c false other n q))
+      let k = m + stmt_size a n in
+      let h2 : HasAt procs slot width p size m (ca ++ (co ++ cb)) = subst (λ j. HasAt procs slot width p size j (ca ++ (co ++ cb))) (ap (λ j. q + j) (test_length c false other n q))
       (has_back procs slot width p size q ct _ has) in
-      let h3 : HasAt procs slot width p size (m + stmt_size a n) (j ∷ cb) = subst (λ k. HasAt procs slot width p size k (j ∷ cb)) (ap (λ k. m + k) (stmt_length a n m labels ret))
+      let h3 : HasAt procs slot width p size k (co ++ cb) = subst (λ j. HasAt procs slot width p size j (co ++ cb)) (ap (λ j. m + j) (stmt_length a n m labels ret))
       (has_back procs slot width p size m ca _ h2) in
-      record { first = has_front procs slot width p size m ca _ h2; jump = h3.0 ∙ ap Some e; second = h3.1 }
+      let lo : k + length co ≡ k + over_size (stmt_size b n) = ap (λ j. k + j) (ap length eo ∙ over_length (stmt_size b n) _) in
+      let h4 : HasAt procs slot width p size (k + over_size (stmt_size b n)) cb = subst (λ j. HasAt procs slot width p size j cb) lo (has_back procs slot width p size k co cb h3) in
+      record {
+        first = has_front procs slot width p size m ca _ h2;
+        over = subst (HasAt procs slot width p size k) eo (has_front procs slot width p size k co cb h3);
+        second = subst (HasAt procs slot width p size (k + over_size (stmt_size b n))) eb h4;
+      }
+
+  -- behind the first side
+  over_runs : (size_b k r : ℕ) → HasAt procs slot width p size k (over_code size_b (k + over_size size_b + size_b)) → Reaches procs slot width p size n ret (k + over_size size_b + size_b) r
+      → Reaches procs slot width p size n ret k r
+  over_runs size_b k r = by (nat_lt 0 size_b) refl
+    where
+      by : (t : Bool) → nat_lt 0 size_b ≡ t → HasAt procs slot width p size k (if t then ins.Jmp (k + (if t then 1 else 0) + size_b) ∷ [] else [])
+          → Reaches procs slot width p size n ret (k + (if t then 1 else 0) + size_b) r → Reaches procs slot width p size n ret k r
+      by true e has reaches = λ regs. comes_on procs slot width p size _ _ _ (one_step procs slot width p size k regs _ (at procs slot width p size (k + 1 + size_b) regs) has.0 refl) (reaches regs)
+      by false e has reaches = let same : k + 0 + size_b ≡ k = omega (arith, ltb-false 0 size_b e) in subst (λ j. Reaches procs slot width p size n ret j r) same reaches
 
   module _ (c : Test) (a b : Stmt) (f : Frame) (vars : List ℤ) (rest : List Todo) (before : List Todo) (s : Stood f (pt vars before)) (two : Sides c a b s.labels s.q) (r : ℕ)
-      (reaches : Reaches procs slot width p size n ret (s.q + (test_size c false n + stmt_size a n + 1 + stmt_size b n)) r) (is_at : IsAt procs slot width p size n ret rest s.labels r)
-      (wa : IsStmtWithin n a) (wb : IsStmtWithin n b) where
-    chosen : (o : Option Bool) → JumpsIf procs slot width p size s.q (s.q + test_size c false n + stmt_size a n + 1) (s.q + test_size c false n) s.regs n false o
+      (reaches : Reaches procs slot width p size n ret (s.q + (test_size c false n + stmt_size a n + over_size (stmt_size b n) + stmt_size b n)) r)
+      (is_at : IsAt procs slot width p size n ret rest s.labels r) (wa : IsStmtWithin n a) (wb : IsStmtWithin n b) where
+    behind : Reaches procs slot width p size n ret (s.q + test_size c false n + stmt_size a n + over_size (stmt_size b n) + stmt_size b n) r
+    behind =
+        let e1 : s.q + (test_size c false n + stmt_size a n + over_size (stmt_size b n) + stmt_size b n) ≡ s.q + test_size c false n + stmt_size a n + over_size (stmt_size b n) + stmt_size b n = omega arith in
+        subst (λ k. Reaches procs slot width p size n ret k r) e1 reaches
+
+    chosen : (o : Option Bool) → JumpsIf procs slot width p size s.q (s.q + test_size c false n + stmt_size a n + over_size (stmt_size b n)) (s.q + test_size c false n) s.regs n false o
         → Goes_on f (pt vars before) s (with_test o (goes vars (Do a ∷ rest)) (goes vars (Do b ∷ rest)))
     chosen None j = fails_on procs slot width p size _ _ s.comes j
     chosen (Some true) j =
         let m = s.q + test_size c false n in
-        let e1 : s.q + (test_size c false n + stmt_size a n + 1 + stmt_size b n) ≡ m + stmt_size a n + 1 + stmt_size b n = omega arith in
-        let on : Reaches procs slot width p size n ret (m + stmt_size a n) r = λ regs. comes_on procs slot width p size _ _ _
-        (one_step procs slot width p size (m + stmt_size a n) regs _ (at procs slot width p size (m + stmt_size a n + 1 + stmt_size b n) regs) two.jump refl)
-        (subst (λ k. Comes procs slot width p size (at procs slot width p size k regs) (at procs slot width p size r regs)) e1 (reaches regs)) in
-        continues procs slot width p size n ret f _ (pt vars (Do a ∷ rest)) s s.labels m j.regs' j.comes (wa, two.first, r, on, is_at) (still_agree j.long j.kept) s.long (inl j.some)
-      where
-        still_agree : length j.regs' ≡ size → AreAllKept n s.regs j.regs' → Agree size n vars j.regs'
-        still_agree long kept = record { long = long; same = λ x low. kept x low ∙ s.agree.same x low; fit = s.agree.fit }
+        let on : Reaches procs slot width p size n ret (m + stmt_size a n) r = over_runs (stmt_size b n) (m + stmt_size a n) r two.over behind in
+        continues procs slot width p size n ret f _ (pt vars (Do a ∷ rest)) s s.labels m j.regs' j.comes (wa, two.first, r, on, is_at)
+        (record { long = j.long; same = λ x low. j.kept x low ∙ s.agree.same x low; fit = s.agree.fit }) s.long (inl j.some)
     chosen (Some false) j =
-        let m = s.q + test_size c false n in
-        let e1 : s.q + (test_size c false n + stmt_size a n + 1 + stmt_size b n) ≡ m + stmt_size a n + 1 + stmt_size b n = omega arith in
-        let on : Reaches procs slot width p size n ret (m + stmt_size a n + 1 + stmt_size b n) r = subst (λ k. Reaches procs slot width p size n ret k r) e1 reaches in
-        continues procs slot width p size n ret f _ (pt vars (Do b ∷ rest)) s s.labels (m + stmt_size a n + 1) j.regs' j.comes (wb, two.second, r, on, is_at)
+        let other = s.q + test_size c false n + stmt_size a n + over_size (stmt_size b n) in
+        continues procs slot width p size n ret f _ (pt vars (Do b ∷ rest)) s s.labels other j.regs' j.comes (wb, two.second, r, behind, is_at)
         (record { long = j.long; same = λ x low. j.kept x low ∙ s.agree.same x low; fit = s.agree.fit }) s.long (inl j.some)
 
   -- the parts of a loop
@@ -282,8 +298,8 @@ module _ (procs : List (List Instr)) (slot width p size n ret : ℕ) where
           (value_runs procs slot width p size valid low_slot low_width e n x n s.q vars s.regs h.0.1 (omega arith) s.agree h.1)
       follows_stmt (If' c pa a pb b) f vars rest s =
           let h = s.is_at in
-          let other = s.q + test_size c false n + stmt_size a n + 1 in
-          chosen c a b f vars rest (Do (If' c pa a pb b) ∷ rest) s (sides c a b s.labels s.q other _ h.1 refl) h.2 h.3 h.4 h.0.1 h.0.2 (test_of c slot width vars)
+          let other = s.q + test_size c false n + stmt_size a n + over_size (stmt_size b n) in
+          chosen c a b f vars rest (Do (If' c pa a pb b) ∷ rest) s (sides c a b s.labels s.q other _ _ h.1 refl refl) h.2 h.3 h.4 h.0.1 h.0.2 (test_of c slot width vars)
           (test_runs procs slot width p size valid low_slot low_width c false n other n s.q vars s.regs h.0.0 (omega arith) s.agree
           (has_front procs slot width p size s.q (test_code c false other n s.q) _ h.1))
       follows_stmt (Loop' c pb b ps st) f vars rest s =

@@ -1,4 +1,5 @@
 pub mod Numbers
+pub mod Opposites
 pub mod Steps
 pub mod Conditions
 pub mod Values

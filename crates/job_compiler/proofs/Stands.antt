@@ -1,7 +1,7 @@
 -- A frame has come to where a function is.
-use Rattle.std.proofs.Common.{◌≡◌, ℕ, zero, suc, ◌+◌, ◌<◌, ◌≤◌, ◌⊎◌, ℤ, pos, true, false, List, [], ◌∷◌, ◌++◌, length, get_or, set, Option, Some, None, refl, sym, subst, ◌∙◌, arith, ⊎_elim, inl, inr}
+use Rattle.std.proofs.Common.{◌≡◌, ℕ, zero, suc, ◌+◌, ◌<◌, ◌≤◌, ◌⊎◌, ℤ, pos, Bool, true, false, if◌then◌else◌, List, [], ◌∷◌, ◌++◌, length, get_or, set, Option, Some, None, refl, sym, subst, ◌∙◌, arith, ⊎_elim, inl, inr}
 use Rattle.std.proofs.Common.{length-append, length-set, get_or-set_same, get_or-set_other, FitsSigned}
-use Rattle.std.specs.Prelude.{slice_get}
+use Rattle.std.specs.Prelude.{nat_lt, slice_get}
 use Rattle.std.specs.Int.{w64}
 use Rattle.std.proofs.lemmas.Bool.{cases_eq}
 use Rattle.job_language.specs.declared.instructions.Instr.{Instr}
@@ -14,7 +14,7 @@ use Rattle.source_language.specs.declared.syntax.Stmt.{Stmt}
 use Rattle.source_language.specs.declared.syntax.Stmt.TheVariants.{Skip, Then', Assign, If', Loop', Repeat', Break, Continue, Return, Make, Wait, Cancel, Read, Store}
 use Rattle.source_language.specs.Meaning.{Operation, Todo, Do, Turn, Next, Point, Act, Goes, Divides, Does, next_turn, past_loop, put_into, answered}
 use Rattle.job_compiler.specs.Within.{IsTestWithin, IsStmtWithin, IsOneWithin}
-use Rattle.job_compiler.specs.Code.{operand, operand_code, above, make_instr, test_size, test_code, stmt_size, loop_test, loop_end, loop_label, after_of, next_of, loop_code, register_for, stmt_code}
+use Rattle.job_compiler.specs.Code.{operand, operand_code, above, make_instr, over_size, over_code, test_size, test_code, stmt_size, loop_test, loop_end, loop_label, after_of, next_of, loop_code, register_for, stmt_code}
 use Rattle.job_compiler.specs.declared.labels.Label.{Label}
 use Rattle.job_compiler.specs.Operations.{operation_of, resumed}
 use Rattle.job_compiler.specs.Traces.{is_return}
@@ -23,6 +23,13 @@ use Rattle.job_compiler.proofs.Conditions.{test_length}
 
 pub loop_length : (cb cs ct : List Instr) (b s t : ℕ) → length cb ≡ b → length cs ≡ s → length ct ≡ t → length (loop_code cb cs ct) ≡ b + s + t
 loop_length cb cs ct b s t lb ls lt = omega (arith, lb, ls, lt, length-append cb (cs ++ ct), length-append cs ct)
+
+one_or_none : (b : Bool) (i : Instr) → length (if b then i ∷ [] else []) ≡ (if b then 1 else 0)
+one_or_none true i = refl
+one_or_none false i = refl
+
+pub over_length : (size to : ℕ) → length (over_code size to) ≡ over_size size
+over_length size to = one_or_none (nat_lt 0 size) (instr.Jmp to)
 
 pub stmt_length : (s : Stmt) (t at : ℕ) (labels : List Label) (ret : ℕ) → length (stmt_code s t at labels ret) ≡ stmt_size s t
 stmt_length Skip t at labels ret = refl
@@ -33,14 +40,16 @@ stmt_length (Then' p a q b) t at labels ret =
 stmt_length (Assign x e) t at labels ret = refl
 stmt_length (If' c p a q b) t at labels ret =
     let m = at + test_size c false t in
-    let other = m + stmt_size a t + 1 in
+    let other = m + stmt_size a t + over_size (stmt_size b t) in
     let ct = test_code c false other t at in
     let ca = stmt_code a t m labels ret in
+    let co = over_code (stmt_size b t) (other + stmt_size b t) in
     let cb = stmt_code b t other labels ret in
     let lt : length ct ≡ test_size c false t = test_length c false other t at in
     let la : length ca ≡ stmt_size a t = stmt_length a t m labels ret in
+    let lo : length co ≡ over_size (stmt_size b t) = over_length (stmt_size b t) (other + stmt_size b t) in
     let lb : length cb ≡ stmt_size b t = stmt_length b t other labels ret in
-    omega (arith, lt, la, lb, length-append ct (ca ++ instr.Jmp (other + stmt_size b t) ∷ cb), length-append ca (instr.Jmp (other + stmt_size b t) ∷ cb))
+    omega (arith, lt, la, lo, lb, length-append ct (ca ++ (co ++ cb)), length-append ca (co ++ cb), length-append co cb)
 stmt_length (Loop' c p b q s) t at labels ret =
     let k = at + 1 in
     let l = loop_length _ _ _ (stmt_size b t) (stmt_size s t) (test_size c true t) (stmt_length b t k (loop_label c b s t k ∷ labels) ret) (stmt_length s t (k + stmt_size b t) labels ret)

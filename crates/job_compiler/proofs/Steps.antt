@@ -2,7 +2,7 @@
 use Rattle.std.proofs.Common.{◌≡◌, ◌≢◌, ℕ, zero, suc, ◌+◌, ◌<◌, ◌≤◌, ◌^◌, ℤ, pos, negsuc, List, [], ◌∷◌, ◌++◌, length, get_or, Option, Some, None, refl, ap, subst, ◌∙◌, arith, length-append}
 use Rattle.std.proofs.Common.{length-set, get_or-set_same, get_or-set_other, FitsSigned}
 use Rattle.std.specs.Prelude.{slice_get, slice_set, slice_index_or, option_and_then}
-use Rattle.std.specs.Int.{int_wrapping_add, w64}
+use Rattle.std.specs.Int.{int_bit_or, w64}
 use Rattle.job_compiler.specs.Colours.{WritesBelow}
 use Rattle.job_language.specs.declared.instructions.Instr.{Instr}
 use Rattle.job_language.specs.declared.instructions.Instr.TheVariants as instr
@@ -17,7 +17,7 @@ use Rattle.source_language.specs.declared.syntax.Expr.TheVariants.{Number, Varia
 use Rattle.source_language.specs.Meaning.{result_of, on_both, value_of}
 use Rattle.job_compiler.specs.Within.{IsWithin}
 use Rattle.job_compiler.specs.Code.{op_instr, operand, above, value_code, operand_code}
-use Rattle.job_compiler.proofs.Numbers.{add_nought}
+use Rattle.job_compiler.proofs.Numbers.{or_same}
 
 -- registers below t, but for one, are the same
 abbrev pub AreKept : (t but : ℕ) → List ℤ → List ℤ → Type 0
@@ -186,31 +186,31 @@ module _ (procs : List (List Instr)) (slot width p size : ℕ) where
     pub still : (n t : ℕ) (vars regs regs' : List ℤ) → n ≤ t → Agree size n vars regs → length regs' ≡ size → AreAllKept t regs regs' → Agree size n vars regs'
     still n t vars regs regs' le agree long kept = record { long = long; same = λ x low. kept x (omega (arith, low, le)) ∙ agree.same x low; fit = agree.fit }
 
-    -- two operands and an operator
-    two_runs : (op : Operator) (ca cb : List Instr) (oa ob : Option ℤ) (d ra rb pc t t2 : ℕ) (regs : List ℤ) → HasAt pc (ca ++ (cb ++ op_instr op d ra rb ∷ [])) → ra < t2 → t ≤ t2
+    -- two operands, and an instruction that writes what comes of both
+    two_runs : (f : ℤ → ℤ → Option ℤ) (i : Instr) (ca cb : List Instr) (oa ob : Option ℤ) (d ra rb pc t t2 : ℕ) (regs : List ℤ) → HasAt pc (ca ++ (cb ++ i ∷ [])) → ra < t2 → t ≤ t2
         → BringsIf pc (pc + length ca) regs ra t oa → ((regs' : List ℤ) → length regs' ≡ size → AreAllKept t regs regs' → BringsIf (pc + length ca) (pc + length ca + length cb) regs' rb t2 ob)
-        → WritesIf pc (pc + length (ca ++ (cb ++ op_instr op d ra rb ∷ []))) regs d t (on_both (result_of op) oa ob)
-    two_runs op ca cb None ob d ra rb pc t t2 regs has low high first second = first
-    two_runs op ca cb (Some x) None d ra rb pc t t2 regs has low high first second =
+        → ((q : ℕ) (regs' : List ℤ) (x y : ℤ) → HasAt q (i ∷ []) → get_or regs' ra (pos 0) ≡ x → get_or regs' rb (pos 0) ≡ y → length regs' ≡ size → WritesIf q (q + 1) regs' d t (f x y))
+        → WritesIf pc (pc + length (ca ++ (cb ++ i ∷ []))) regs d t (on_both f oa ob)
+    two_runs f i ca cb None ob d ra rb pc t t2 regs has low high first second does = first
+    two_runs f i ca cb (Some x) None d ra rb pc t t2 regs has low high first second does =
         fails_on _ _ first.comes (second first.regs' first.long first.kept)
-    two_runs op ca cb (Some x) (Some y) d ra rb pc t t2 regs has low high first second =
-        last (result_of op x y) (op_runs op d ra rb (pc + length ca + length cb) t next.regs' x y here (next.kept ra low ∙ first.value) next.value next.long)
+    two_runs f i ca cb (Some x) (Some y) d ra rb pc t t2 regs has low high first second does =
+        last (f x y) (does (pc + length ca + length cb) next.regs' x y here (next.kept ra low ∙ first.value) next.value next.long)
       where
         next : Brings (pc + length ca) (pc + length ca + length cb) first.regs' rb t2 y
         next = second first.regs' first.long first.kept
 
-        here : HasAt (pc + length ca + length cb) (op_instr op d ra rb ∷ [])
-        here = has_back (pc + length ca) cb (op_instr op d ra rb ∷ []) (has_back pc ca _ has)
+        here : HasAt (pc + length ca + length cb) (i ∷ [])
+        here = has_back (pc + length ca) cb (i ∷ []) (has_back pc ca _ has)
 
-        len : pc + length ca + length cb + length (op_instr op d ra rb ∷ []) ≡ pc + length (ca ++ (cb ++ op_instr op d ra rb ∷ []))
-        len = omega (arith, length-append ca (cb ++ op_instr op d ra rb ∷ []), length-append cb (op_instr op d ra rb ∷ []))
+        len : pc + length ca + length cb + 1 ≡ pc + length (ca ++ (cb ++ i ∷ []))
+        len = omega (arith, length-append ca (cb ++ i ∷ []), length-append cb (i ∷ []))
 
         both : Comes (at pc regs) (at (pc + length ca + length cb) next.regs')
         both = comes_on _ _ _ first.comes next.comes
 
-        last : (o : Option ℤ) → WritesIf (pc + length ca + length cb) (pc + length ca + length cb + length (op_instr op d ra rb ∷ [])) next.regs' d t o
-            → WritesIf pc (pc + length (ca ++ (cb ++ op_instr op d ra rb ∷ []))) regs d t o
-        last None f = fails_on _ _ both f
+        last : (o : Option ℤ) → WritesIf (pc + length ca + length cb) (pc + length ca + length cb + 1) next.regs' d t o → WritesIf pc (pc + length (ca ++ (cb ++ i ∷ []))) regs d t o
+        last None w = fails_on _ _ both w
         last (Some v) w = subst (λ q. Writes pc q regs d t v) len (record {
           regs' = w.regs';
           comes = comes_on _ _ _ both w.comes;
@@ -225,43 +225,39 @@ module _ (procs : List (List Instr)) (slot width p size : ℕ) where
     value_runs (Number z) n d t pc vars regs h le agree has = write pc d t regs (instr.Set d z) z has.0 refl (valid pc _ has.0).0 agree.long
     value_runs Slot n d t pc vars regs h le agree has = write pc d t regs (instr.Slot d) (pos slot) has.0 refl (valid pc _ has.0).0 agree.long
     value_runs Width n d t pc vars regs h le agree has = write pc d t regs (instr.Width d) (pos width) has.0 refl (valid pc _ has.0).0 agree.long
-    value_runs (Variable x) n d t pc vars regs h le agree has = moved
-      where
-        first : Writes pc (pc + 1) regs t t (pos 0)
-        first = write pc t t regs (instr.Set t (pos 0)) (pos 0) has.0 refl (valid pc _ has.0).0 agree.long
-
-        sum : int_wrapping_add w64 (get_or first.regs' x (pos 0)) (get_or first.regs' t (pos 0)) ≡ get_or vars x (pos 0)
-        sum = ap (λ z. int_wrapping_add w64 z (get_or first.regs' t (pos 0))) (first.kept x (omega (arith, h, le)) (omega (arith, h, le)) ∙ agree.same x h)
-            ∙ ap (int_wrapping_add w64 (get_or vars x (pos 0))) first.value ∙ add_nought (get_or vars x (pos 0)) (agree.fit x)
-
-        second : Writes (pc + 1) (pc + 1 + 1) first.regs' d t (get_or vars x (pos 0))
-        second = write (pc + 1) d t first.regs' (instr.Add d x t) (get_or vars x (pos 0)) has.1.0 (ap (λ z. Moves (write_and_step (at (pc + 1) first.regs') d z)) sum)
-            (valid (pc + 1) _ has.1.0).0 first.long
-
-        two : pc + 1 + 1 ≡ pc + 2
-        two = omega arith
-
-        moved : Writes pc (pc + 2) regs d t (get_or vars x (pos 0))
-        moved = subst (λ q. Writes pc q regs d t (get_or vars x (pos 0))) two (record {
-          regs' = second.regs';
-          comes = comes_on _ _ _ first.comes second.comes;
-          some = omega (arith, first.some);
-          long = second.long;
-          value = second.value;
-          kept = λ r below other. second.kept r below other ∙ first.kept r below (omega (arith, below));
-        })
+    value_runs (Variable x) n d t pc vars regs h le agree has = write pc d t regs (instr.Or d x x) (get_or vars x (pos 0)) has.0
+        (ap (λ z. Moves (write_and_step (at pc regs) d z)) (ap (λ z. int_bit_or w64 z z) (agree.same x h) ∙ or_same (get_or vars x (pos 0)) (agree.fit x))) (valid pc _ has.0).0 agree.long
     value_runs (Two' op p a q b) n d t pc vars regs h le agree has =
         let ca = operand_code a t in
         let t2 = above a t in
         let cb = operand_code b t2 in
         let high = above_high t a in
         let le2 : n ≤ t2 = omega (arith, high, le) in
-        two_runs op ca cb (value_of a slot width vars) (value_of b slot width vars) d (operand a t) (operand b t2) pc t t2 regs has (operand_low n t a h.0 le) high
+        two_runs (result_of op) (op_instr op d (operand a t) (operand b t2)) ca cb (value_of a slot width vars) (value_of b slot width vars) d (operand a t) (operand b t2) pc t t2 regs has
+        (operand_low n t a h.0 le) high
         (brought_runs n pc t a vars regs h.0 le agree (has_front pc ca _ has) (value_runs a n t t pc vars regs h.0 le agree))
         (λ regs' long kept.
         let agree' = still n t vars regs regs' le agree long kept in
         brought_runs n (pc + length ca) t2 b vars regs' h.1 le2 agree' (has_front _ cb _ (has_back pc ca _ has)) (value_runs b n t2 t2 (pc + length ca) vars regs' h.1 le2 agree'))
+        (λ q regs' x y there ex ey long. op_runs op d (operand a t) (operand b t2) q t regs' x y there ex ey long)
 
     pub operand_runs : (e : Expr) (n t pc : ℕ) (vars regs : List ℤ) → IsWithin n e → n ≤ t → Agree size n vars regs → HasAt pc (operand_code e t)
         → BringsIf pc (pc + length (operand_code e t)) regs (operand e t) t (value_of e slot width vars)
     operand_runs e n t pc vars regs h le agree has = brought_runs n pc t e vars regs h le agree has (value_runs e n t t pc vars regs h le agree)
+
+    -- both operands, and an operator of them exchanged
+    pub exchanged_runs : (o : Operator) (a b : Expr) (n t pc : ℕ) (vars regs : List ℤ) → IsWithin n a → IsWithin n b → n ≤ t → Agree size n vars regs
+        → HasAt pc (operand_code a t ++ (operand_code b (above a t) ++ op_instr o t (operand b (above a t)) (operand a t) ∷ []))
+        → BringsIf pc (pc + length (operand_code a t ++ (operand_code b (above a t) ++ op_instr o t (operand b (above a t)) (operand a t) ∷ []))) regs t t
+        (on_both (λ x y. result_of o y x) (value_of a slot width vars) (value_of b slot width vars))
+    exchanged_runs o a b n t pc vars regs ha hb le agree has =
+        let ca = operand_code a t in
+        let t2 = above a t in
+        let cb = operand_code b t2 in
+        let high = above_high t a in
+        written_brings_if pc _ t regs (on_both (λ x y. result_of o y x) (value_of a slot width vars) (value_of b slot width vars))
+        (two_runs (λ x y. result_of o y x) (op_instr o t (operand b t2) (operand a t)) ca cb (value_of a slot width vars) (value_of b slot width vars) t (operand a t) (operand b t2) pc t t2 regs has
+        (operand_low n t a ha le) high
+        (operand_runs a n t pc vars regs ha le agree (has_front pc ca _ has))
+        (λ regs' long kept. operand_runs b n t2 (pc + length ca) vars regs' hb (omega (arith, high, le)) (still n t vars regs regs' le agree long kept) (has_front _ cb _ (has_back pc ca _ has)))
+        (λ q regs' x y there ex ey long. op_runs o t (operand b t2) (operand a t) q t regs' y x there ey ex long))

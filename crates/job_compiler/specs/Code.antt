@@ -1,5 +1,5 @@
 -- The instructions of a function. Variables are registers, and values on the way are in those from `free` on.
-use Rattle.std.specs.Prelude.{ℕ, ◌+◌, pos, Bool, true, false, not, if◌then◌else◌, List, [], ◌∷◌, ◌++◌, length, Option, Some, None, slice_get}
+use Rattle.std.specs.Prelude.{ℕ, ◌+◌, nat_lt, pos, Bool, true, false, not, if◌then◌else◌, List, [], ◌∷◌, ◌++◌, length, Option, Some, None, slice_get}
 use Rattle.job_language.specs.declared.instructions.Instr.{Instr}
 use Rattle.job_language.specs.declared.instructions.Instr.TheVariants as instr
 use Rattle.source_language.specs.declared.syntax.Operator.{Operator}
@@ -50,7 +50,7 @@ brought e code = code
 
 abbrev pub value_code : Expr → (into free : ℕ) → List Instr
 value_code (Number n) d t = instr.Set d n ∷ []
-value_code (Variable x) d t = instr.Set t (pos 0) ∷ instr.Add d x t ∷ []
+value_code (Variable x) d t = instr.Or d x x ∷ []
 value_code Slot d t = instr.Slot d ∷ []
 value_code Width d t = instr.Width d ∷ []
 value_code (Two' op p a q b) d t =
@@ -64,20 +64,44 @@ abbrev pub register_for : Option ℕ → (free : ℕ) → ℕ
 register_for None t = t
 register_for (Some d) t = d
 
--- the last instructions of a condition: they jump if the number in the register is not 0, or if it is 0
-abbrev pub jump_instrs : Bool → (r to at : ℕ) → List Instr
-jump_instrs true r to at = instr.Jz r (at + 2) ∷ instr.Jmp to ∷ []
-jump_instrs false r to at = instr.Jz r to ∷ []
+-- the operator that gives 0 for two numbers, exchanged, exactly if another one does not give 0 for them
+abbrev pub opposite : Operator → Option Operator
+opposite Below = Some AtMost
+opposite AtMost = Some Below
+opposite Equal = Some Minus
+opposite Minus = Some Equal
+opposite op = None
+
+-- the same of the operator of an expression
+abbrev pub opposed : Expr → Option Operator
+opposed (Two' op p a q b) = opposite op
+opposed e = None
+
+-- both operands of an expression, exchanged, with another operator, into the first free register
+abbrev pub opposed_code : Operator → Expr → (free : ℕ) → List Instr
+opposed_code o (Two' op p a q b) t = operand_code a t ++ (operand_code b (above a t) ++ op_instr o t (operand b (above a t)) (operand a t) ∷ [])
+opposed_code o e t = operand_code e t
+
+-- Jumps if an expression is 0, or if it is not: with its opposite, if it has one, and else past another jump.
+abbrev pub holds_code : (want : Bool) → Option Operator → Expr → (to free at : ℕ) → List Instr
+holds_code false o e to t at = operand_code e t ++ instr.Jz (operand e t) to ∷ []
+holds_code true (Some o) e to t at = opposed_code o e t ++ instr.Jz t to ∷ []
+holds_code true None e to t at = operand_code e t ++ instr.Jz (operand e t) (at + length (operand_code e t) + 2) ∷ instr.Jmp to ∷ []
+
+abbrev pub jumps : (want : Bool) → Option Operator → ℕ
+jumps false o = 1
+jumps true (Some o) = 1
+jumps true None = 2
 
 abbrev pub test_size : Test → (want : Bool) → (free : ℕ) → ℕ
-test_size (Holds e) w t = length (operand_code e t) + (if w then 2 else 1)
+test_size (Holds e) w t = length (operand_code e t) + jumps w (opposed e)
 test_size (Not' p c) w t = test_size c (not w) t
 test_size (Both' p a q b) w t = test_size a false t + test_size b w t
 test_size (Either' p a q b) w t = test_size a true t + test_size b w t
 
 -- jumps to `to` if the condition is as wanted, and goes on behind the code if not
 abbrev pub test_code : Test → (want : Bool) → (to free at : ℕ) → List Instr
-test_code (Holds e) w to t at = operand_code e t ++ jump_instrs w (operand e t) to (at + length (operand_code e t))
+test_code (Holds e) w to t at = holds_code w (opposed e) e to t at
 test_code (Not' p c) w to t at = test_code c (not w) to t at
 test_code (Both' p a q b) w to t at =
     let m = at + test_size a false t in test_code a false (if w then m + test_size b w t else to) t at ++ test_code b w to t m
@@ -98,11 +122,18 @@ read_instr d (Cell k) = instr.Load d k
 read_instr d (CellSum k) = instr.Sum d k
 read_instr d (CellCount k) = instr.Count d k
 
+-- the jump over a side of a choice, if it has code
+abbrev pub over_size : (size : ℕ) → ℕ
+over_size size = if nat_lt 0 size then 1 else 0
+
+abbrev pub over_code : (size to : ℕ) → List Instr
+over_code size to = if nat_lt 0 size then instr.Jmp to ∷ [] else []
+
 abbrev pub stmt_size : Stmt → (free : ℕ) → ℕ
 stmt_size Skip t = 0
 stmt_size (Then' p a q b) t = stmt_size a t + stmt_size b t
 stmt_size (Assign x e) t = length (value_code e x t)
-stmt_size (If' c p a q b) t = test_size c false t + stmt_size a t + 1 + stmt_size b t
+stmt_size (If' c p a q b) t = test_size c false t + stmt_size a t + over_size (stmt_size b t) + stmt_size b t
 stmt_size (Loop' c p b q s) t = 1 + (stmt_size b t + stmt_size s t + test_size c true t)
 stmt_size (Repeat' c p b q s) t = stmt_size b t + stmt_size s t + test_size c true t
 stmt_size (Break k) t = 1
@@ -145,8 +176,8 @@ stmt_code (Then' p a q b) t at labels ret = stmt_code a t at labels ret ++ stmt_
 stmt_code (Assign x e) t at labels ret = value_code e x t
 stmt_code (If' c p a q b) t at labels ret =
     let m = at + test_size c false t in
-    let other = m + stmt_size a t + 1 in
-    test_code c false other t at ++ (stmt_code a t m labels ret ++ instr.Jmp (other + stmt_size b t) ∷ stmt_code b t other labels ret)
+    let other = m + stmt_size a t + over_size (stmt_size b t) in
+    test_code c false other t at ++ (stmt_code a t m labels ret ++ (over_code (stmt_size b t) (other + stmt_size b t) ++ stmt_code b t other labels ret))
 stmt_code (Loop' c p b q s) t at labels ret =
     let k = at + 1 in
     instr.Jmp (loop_test b s t k)

@@ -20,10 +20,10 @@ IsOperandLow m Slot t = t < m
 IsOperandLow m Width t = t < m
 IsOperandLow m (Two' op p a q b) t = IsOperandLow m a t × IsOperandLow m b (above a t) × (t < m)
 
--- a value that goes to a variable that is there: a copy of another one needs the free register
+-- a value that goes to a variable that is there
 abbrev pub IsValueLow : (most : ℕ) → Expr → (free : ℕ) → Type 0
 IsValueLow m (Number z) t = Unit {0}
-IsValueLow m (Variable x) t = (x < m) × (t < m)
+IsValueLow m (Variable x) t = x < m
 IsValueLow m Slot t = Unit {0}
 IsValueLow m Width t = Unit {0}
 IsValueLow m (Two' op p a q b) t = IsOperandLow m a t × IsOperandLow m b (above a t)

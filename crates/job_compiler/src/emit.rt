@@ -1,18 +1,19 @@
 // The code of a function.
-ghost use Rattle.std.specs.Prelude.{◌≡◌, ◌↔◌, ◌+◌, ◌<◌, ◌≤◌, ℕ, [], ◌∷◌, ◌++◌, length, false, None, if◌then◌else◌};
-ghost use Rattle.job_compiler.specs.Code.{above, operand, operand_code, register_for, make_code, make_instr, read_instr, jump_instrs, test_size, test_code, stmt_size, stmt_code, function_code};
-ghost use Rattle.job_language.specs.declared.instructions.Instr.TheVariants.{Jmp, Ret, Store, Wait};
+ghost use Rattle.std.specs.Prelude.{◌≡◌, ◌↔◌, ◌+◌, ◌<◌, ◌≤◌, ℕ, [], ◌∷◌, ◌++◌, length, None};
+ghost use Rattle.job_compiler.specs.Code.{above, operand, operand_code, register_for, make_code, make_instr, read_instr, stmt_size, stmt_code, function_code};
+ghost use Rattle.job_language.specs.declared.instructions.Instr.TheVariants.{Ret, Store};
 ghost use Rattle.job_compiler.specs.Labels.{labels_of};
-ghost use Rattle.job_compiler.specs.Registers.{IsWantedLow, IsOperandLow, IsTestLow, IsMakerLow, IsStmtLow};
+ghost use Rattle.job_compiler.specs.Registers.{IsWantedLow, IsOperandLow, IsStmtLow};
 ghost use Rattle.job_compiler.specs.Virtual.{instr_of};
 ghost use Rattle.job_compiler.specs.Wanted.{wanted_code};
 
-use crate::labels::{Label, Labels, after_of, if_labels, loop_labels, next_of};
+use crate::branches::{emit_over, emit_test};
+use crate::labels::{Labels, after_of, if_labels, loop_labels, next_of};
 use crate::registers::VIRTUAL_REGISTERS;
-use crate::sizes::{MAX_BODY, above, size_of_test};
+use crate::sizes::{MAX_BODY, above};
 use crate::virtuals::{VirtualCode, VirtualInstr};
 use job_language::Key;
-use source_language::{Expr, Function, Maker, Operator, Question, Stmt, Test};
+use source_language::{Expr, Function, Maker, Operator, Question, Stmt};
 
 /// The code of a function whose body has at most that many instructions.
 pub(crate) fn emit_function(code: &mut VirtualCode, function: &Function, end: u8)
@@ -34,7 +35,7 @@ pub(crate) fn emit_function(code: &mut VirtualCode, function: &Function, end: u8
 }
 
 /// The register of an operand.
-fn operand(e: &Expr, free: u8) -> u8
+pub(crate) fn operand(e: &Expr, free: u8) -> u8
     ensures { result ≡ operand e.now free }
 {
     match e {
@@ -53,7 +54,7 @@ fn written(into: Option<u8>, free: u8) -> u8
     }
 }
 
-fn emit_expr(code: &mut VirtualCode, e: &Expr, into: Option<u8>, free: u8)
+pub(crate) fn emit_expr(code: &mut VirtualCode, e: &Expr, into: Option<u8>, free: u8)
     requires low { IsWantedLow VIRTUAL_REGISTERS e.now into free }
     requires room { length code.old + length (wanted_code e.now into free) ≤ MAX_BODY }
     ensures code { code.new ≡ code.old ++ wanted_code e.now into free }
@@ -63,8 +64,7 @@ fn emit_expr(code: &mut VirtualCode, e: &Expr, into: Option<u8>, free: u8)
         Expr::Number(n) => code.put(VirtualInstr::Set(written(into, free), *n)),
         Expr::Variable(x) => {
             if let Some(d) = into {
-                code.put(VirtualInstr::Set(free, 0));
-                code.put(VirtualInstr::Two(Operator::Plus, d, *x, free));
+                code.put(VirtualInstr::Two(Operator::BitOr, d, *x, *x));
             }
         }
         Expr::Slot => code.put(VirtualInstr::Slot(written(into, free))),
@@ -78,52 +78,6 @@ fn emit_expr(code: &mut VirtualCode, e: &Expr, into: Option<u8>, free: u8)
             let right = operand(b, second);
             code.put(VirtualInstr::Two(*op, d, left, right));
         }
-    }
-}
-
-fn emit_test(code: &mut VirtualCode, c: &Test, want: bool, to: u8, free: u8)
-    requires low { IsTestLow VIRTUAL_REGISTERS c.now free }
-    requires room { length code.old + test_size c.now want free ≤ MAX_BODY }
-    ensures code { code.new ≡ code.old ++ test_code c.now want to free (length code.old) }
-    ensures len { length code.new ≡ length code.old + test_size c.now want free }
-{
-    match c {
-        Test::Holds(e) => {
-            emit_expr(code, e, None, free);
-            let tested = operand(e, free);
-            emit_jump(code, want, tested, to);
-        }
-        Test::Not(t) => emit_test(code, t, !want, to, free),
-        Test::Both(a, b) => {
-            let after = code.next() + size_of_test(c, want, free);
-            emit_test(code, a, false, chosen(want, after, to), free);
-            emit_test(code, b, want, to, free);
-        }
-        Test::Either(a, b) => {
-            let after = code.next() + size_of_test(c, want, free);
-            emit_test(code, a, true, chosen(want, to, after), free);
-            emit_test(code, b, want, to, free);
-        }
-    }
-}
-
-fn chosen(want: bool, first: u8, second: u8) -> u8
-    ensures { result ≡ (if want then first else second) }
-{
-    if want { first } else { second }
-}
-
-fn emit_jump(code: &mut VirtualCode, want: bool, register: u8, to: u8)
-    requires { length code.old + (if want then 2 else 1) ≤ MAX_BODY }
-    ensures code { code.new ≡ code.old ++ jump_instrs want register to (length code.old) }
-    ensures len { length code.new ≡ length code.old + (if want then 2 else 1) }
-{
-    if want {
-        let after = code.next() + 2;
-        code.put(VirtualInstr::Jz(register, after));
-        code.put(VirtualInstr::Jmp(to));
-    } else {
-        code.put(VirtualInstr::Jz(register, to));
     }
 }
 
@@ -205,7 +159,7 @@ fn emit_stmt(code: &mut VirtualCode, s: &Stmt, free: u8, labels: &Labels, end: u
             let sides = if_labels(code.next(), c, a, b, free);
             emit_test(code, c, false, sides.other, free);
             emit_stmt(code, a, free, &*labels, end);
-            code.put(VirtualInstr::Jmp(sides.after));
+            emit_over(code, sides.size, sides.after);
             emit_stmt(code, b, free, &*labels, end);
         }
         Stmt::Loop(c, b, step) => {

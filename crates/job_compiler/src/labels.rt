@@ -1,11 +1,11 @@
 // Places to jump to in the code of a function.
 ghost use Rattle.std.specs.Prelude.{◌≡◌, ◌+◌, ◌≤◌, ◌∷◌, false, true, slice_get, length};
-ghost use Rattle.job_compiler.specs.Code.{test_size, stmt_size, loop_test, loop_end, after_of, next_of};
+ghost use Rattle.job_compiler.specs.Code.{over_size, test_size, stmt_size, loop_test, loop_end, after_of, next_of};
 ghost use Rattle.job_compiler.specs.Labels.{labels_of};
 ghost use Rattle.job_compiler.specs.Registers.{IsTestLow, IsStmtLow};
 
 use crate::registers::VIRTUAL_REGISTERS;
-use crate::sizes::{MAX_BODY, size_of_stmt, size_of_test};
+use crate::sizes::{MAX_BODY, over_size, size_of_stmt, size_of_test};
 use source_language::{Stmt, Test};
 
 /// Where `continue` and `break` lead in the body of a loop: to the step, and to what follows the loop.
@@ -55,10 +55,11 @@ pub(crate) fn next_of(labels: &Labels, loops: u8, end: u8) -> u8
     }
 }
 
-/// Where the other side of a choice is, and what follows both.
+/// Where the other side of a choice is, how many instructions it has, and what follows both.
 #[derive(Clone, Copy)]
 pub(crate) struct IfLabels {
     pub(crate) other: u8,
+    pub(crate) size: u8,
     pub(crate) after: u8,
 }
 
@@ -67,16 +68,19 @@ pub(crate) fn if_labels(at: u8, c: &Test, a: &Stmt, b: &Stmt, free: u8) -> IfLab
     requires condition { IsTestLow VIRTUAL_REGISTERS c.now free }
     requires first { IsStmtLow VIRTUAL_REGISTERS a.now free }
     requires second { IsStmtLow VIRTUAL_REGISTERS b.now free }
-    requires room { at + test_size c.now false free + stmt_size a.now free + 1 + stmt_size b.now free ≤ MAX_BODY }
-    ensures other { result.other ≡ at + test_size c.now false free + stmt_size a.now free + 1 }
+    requires room { at + test_size c.now false free + stmt_size a.now free
+        + over_size (stmt_size b.now free) + stmt_size b.now free ≤ MAX_BODY }
+    ensures other { result.other ≡ at + test_size c.now false free + stmt_size a.now free
+        + over_size (stmt_size b.now free) }
+    ensures size { result.size ≡ stmt_size b.now free }
     ensures after { result.after ≡ result.other + stmt_size b.now free }
 {
     let test = size_of_test(c, false, free);
     let first = size_of_stmt(a, free);
-    let second = size_of_stmt(b, free);
-    let other = at + test + first + 1;
-    let after = other + second;
-    IfLabels { other, after }
+    let size = size_of_stmt(b, free);
+    let other = at + test + first + over_size(size);
+    let after = other + size;
+    IfLabels { other, size, after }
 }
 
 /// Where the parts of a loop are: the body, the condition, and the labels of the body.

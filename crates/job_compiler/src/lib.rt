@@ -1,6 +1,7 @@
 //! From functions of the source language to procedures of a job.
 #![tactic(auto)]
 
+mod branches;
 mod checks;
 mod compile;
 mod emit;

@@ -44,7 +44,7 @@ fn value_low(e: &Expr, free: u8) -> bool
 {
     match e {
         Expr::Number(_) => true,
-        Expr::Variable(x) => is_low(*x) && is_low(free),
+        Expr::Variable(x) => is_low(*x),
         Expr::Slot => true,
         Expr::Width => true,
         Expr::Two(_, a, b) => two_low(a, b, free),

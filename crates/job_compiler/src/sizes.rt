@@ -1,11 +1,11 @@
 // How many instructions there will be.
 ghost use Rattle.std.specs.Prelude.{◌≡◌, ◌+◌, ◌≤◌, length, SomeIff};
-ghost use Rattle.job_compiler.specs.Code.{above, test_size, stmt_size};
+ghost use Rattle.job_compiler.specs.Code.{above, opposite, opposed, jumps, over_size, test_size, stmt_size};
 ghost use Rattle.job_compiler.specs.Registers.{IsOperandLow, IsWantedLow, IsTestLow, IsStmtLow};
 ghost use Rattle.job_compiler.specs.Wanted.{wanted_code};
 
 use crate::registers::VIRTUAL_REGISTERS;
-use source_language::{Expr, Stmt, Test};
+use source_language::{Expr, Operator, Stmt, Test};
 
 /// How many instructions the body of a function may have: two more follow it.
 pub(crate) const MAX_BODY: u8 = 254;
@@ -39,7 +39,7 @@ pub(crate) fn expr_size(e: &Expr, into: Option<u8>, free: u8) -> Option<u8>
     match e {
         Expr::Number(_) => Some(1),
         Expr::Variable(_) => match into {
-            Some(_) => Some(2),
+            Some(_) => Some(1),
             None => Some(0),
         },
         Expr::Slot => Some(1),
@@ -52,12 +52,64 @@ pub(crate) fn expr_size(e: &Expr, into: Option<u8>, free: u8) -> Option<u8>
     }
 }
 
+/// The operator that gives 0 for two numbers, exchanged, exactly if this one does not give 0 for them.
+pub(crate) fn opposite(op: Operator) -> Option<Operator>
+    ensures { result ≡ opposite op }
+{
+    match op {
+        Operator::Below => Some(Operator::AtMost),
+        Operator::AtMost => Some(Operator::Below),
+        Operator::Equal => Some(Operator::Minus),
+        Operator::Minus => Some(Operator::Equal),
+        Operator::Plus => None,
+        Operator::Times => None,
+        Operator::Over => None,
+        Operator::Remainder => None,
+        Operator::BitAnd => None,
+        Operator::BitOr => None,
+        Operator::BitXor => None,
+        Operator::ShiftLeft => None,
+        Operator::ShiftRight => None,
+    }
+}
+
+/// The same of the operator of an expression.
+fn opposed(e: &Expr) -> Option<Operator>
+    ensures { result ≡ opposed e.now }
+{
+    match e {
+        Expr::Two(op, _, _) => opposite(*op),
+        Expr::Number(_) => None,
+        Expr::Variable(_) => None,
+        Expr::Slot => None,
+        Expr::Width => None,
+    }
+}
+
+// How many instructions jump if an expression is not 0, or if it is.
+fn jumps(want: bool, opposed: Option<Operator>) -> u8
+    ensures { result ≡ jumps want opposed }
+{
+    match (want, opposed) {
+        (false, _) => 1,
+        (true, Some(_)) => 1,
+        (true, None) => 2,
+    }
+}
+
+/// How many instructions jump over a side of a choice that has so many.
+pub(crate) fn over_size(size: u8) -> u8
+    ensures { result ≡ over_size size }
+{
+    if 0 < size { 1 } else { 0 }
+}
+
 fn test_size(c: &Test, want: bool, free: u8) -> Option<u8>
     requires { IsTestLow VIRTUAL_REGISTERS c.now free }
     ensures { SomeIff result (test_size c.now want free ≤ MAX_BODY) (test_size c.now want free) }
 {
     match c {
-        Test::Holds(e) => sum(expr_size(e, None, free)?, if want { 2 } else { 1 }),
+        Test::Holds(e) => sum(expr_size(e, None, free)?, jumps(want, opposed(e))),
         Test::Not(t) => test_size(t, !want, free),
         Test::Both(a, b) => sum(test_size(a, false, free)?, test_size(b, want, free)?),
         Test::Either(a, b) => sum(test_size(a, true, free)?, test_size(b, want, free)?),
@@ -75,7 +127,8 @@ pub(crate) fn stmt_size(s: &Stmt, free: u8) -> Option<u8>
         Stmt::Assign(x, e) => expr_size(e, Some(*x), free),
         Stmt::If(c, a, b) => {
             let before = sum(test_size(c, false, free)?, stmt_size(a, free)?)?;
-            sum(sum(before, 1)?, stmt_size(b, free)?)
+            let other = stmt_size(b, free)?;
+            sum(sum(before, over_size(other))?, other)
         }
         Stmt::Loop(c, b, s) => {
             let parts = sum(stmt_size(b, free)?, stmt_size(s, free)?)?;
