@@ -20,7 +20,7 @@ pub fn job_of(alloc: Global, args: [i64; 2], text: &[u8]) -> Result<Job, Compile
     ensures refused { IfErr result (IsErrorOf text.now) }
 {
     match read_source(alloc, text) {
-        Ok(functions) => job_with(alloc, args, text, functions.as_slice()),
+        Ok(mut functions) => job_with(alloc, args, text, functions.as_mut_slice()),
         Err(SourceError::Memory) => Err(CompileError::Memory),
         Err(SourceError::Fault(fault)) => Err(CompileError::Fault(CompileFault::Source(fault))),
     }
@@ -31,9 +31,9 @@ fn job_with(
     alloc: Global,
     args: [i64; 2],
     text: &[u8],
-    functions: &[Function],
+    functions: &mut [Function],
 ) -> Result<Job, CompileError>
-    requires { Says text.now (map function_tree_of functions.now) }
+    requires { Says text.now (map function_tree_of functions.old) }
     ensures made { IfOk result (IsJobOf args text.now) }
     ensures refused { IfErr result (IsErrorOf text.now) }
 {
@@ -54,9 +54,13 @@ fn most_fuel() -> Fuel
 }
 
 /// The program of functions. A refusal has the place of its function.
-fn program_of(alloc: Global, functions: &[Function], text: &[u8]) -> Result<Program, CompileError>
-    requires { Says text.now (map function_tree_of functions.now) }
-    ensures compiled { IfOk result (IsCompiledProgram functions.now) }
+fn program_of(
+    alloc: Global,
+    functions: &mut [Function],
+    text: &[u8],
+) -> Result<Program, CompileError>
+    requires { Says text.now (map function_tree_of functions.old) }
+    ensures compiled { IfOk result (IsCompiledProgram functions.old) }
     ensures refused { IfErr result (IsErrorOf text.now) }
 {
     match compile_program(alloc, functions) {

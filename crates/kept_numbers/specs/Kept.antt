@@ -52,5 +52,5 @@ kept_stmt x z (Store k e) = Store k (kept_expr x z e)
 pub record Keeps (z : ℤ) (f f' : Function) : Type 0 where
   pub variables : f'.variables ≡ f.variables + 1
   pub first : Box (Unit {0}) Global
-  pub then : Box (Unit {0}) Global
-  pub body : f'.body ≡ Then' first (Assign f.variables (Number z)) then (kept_stmt f.variables z f.body)
+  pub second : Box (Unit {0}) Global
+  pub body : f'.body ≡ Then' first (Assign f.variables (Number z)) second (kept_stmt f.variables z f.body)

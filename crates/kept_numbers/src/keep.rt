@@ -1,5 +1,5 @@
 // A number in a variable of its own.
-ghost use Rattle.std.specs.Prelude.{◌≡◌, OnOk};
+ghost use Rattle.std.specs.Prelude.{◌≡◌, ◌<◌, OnOk};
 ghost use Rattle.kept_numbers.specs.Kept.{kept_expr, kept_value, kept_test, kept_stmt, Keeps};
 
 use source_language::{Expr, Function, Stmt, Test};

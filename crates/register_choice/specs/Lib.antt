@@ -3,3 +3,4 @@ pub mod Reasons
 pub mod Refusals
 pub mod Programs
 pub mod Names
+pub mod Keeping

@@ -4,6 +4,7 @@
 mod check;
 mod choose;
 mod compile;
+mod keeping;
 mod liveness;
 mod memory;
 mod programs;

@@ -7,6 +7,7 @@ ghost use Rattle.job_compiler.specs.Programs.{IsCompiledProgram};
 ghost use Rattle.register_choice.specs.Programs.{IsNoProgram, IsWrong};
 
 use crate::compile::{ChoiceError, ChoiceRefusal, compile_function};
+use crate::keeping::{MOST_KEPT, with_kept};
 use job_compiler::are_calls;
 use job_language::{MAX_PROCS, Proc, Program};
 use source_language::Function;
@@ -26,10 +27,14 @@ pub enum ChoiceProgramError {
 
 /// The program of functions, numbered from 0: the root runs the first one. Each of its procedures
 /// does the same as the function of its number, over registers that are chosen where it needs more
-/// than there are.
-pub fn compile_program(alloc: Global, functions: &[Function]) -> Result<Program, ChoiceProgramError>
-    ensures compiled { IfOk result (IsCompiledProgram functions.now) }
-    ensures refused { IfErr result (IsNoProgram functions.now) }
+/// than there are. Numbers that it reads more than once have registers of their own where some are left: the
+/// functions are changed for that, and are of no use afterwards.
+pub fn compile_program(
+    alloc: Global,
+    functions: &mut [Function],
+) -> Result<Program, ChoiceProgramError>
+    ensures compiled { IfOk result (IsCompiledProgram functions.old) }
+    ensures refused { IfErr result (IsNoProgram functions.old) }
 {
     if functions.is_empty() || functions.len() > MAX_PROCS {
         return Err(ChoiceProgramError::Count);
@@ -42,15 +47,16 @@ pub fn compile_program(alloc: Global, functions: &[Function]) -> Result<Program,
 }
 
 // The procedures, one after another.
-fn compile_all(alloc: Global, functions: &[Function]) -> Result<Vec<Proc>, ChoiceProgramError>
-    ensures compiled { IfOk result (λ procs. AllZip IsCompiled functions.now procs.items) }
+fn compile_all(alloc: Global, functions: &mut [Function]) -> Result<Vec<Proc>, ChoiceProgramError>
+    ensures compiled { IfOk result (λ procs. AllZip IsCompiled functions.old procs.items) }
     ensures valid { IfOk result (λ procs. All IsValidProc procs.items) }
-    ensures calls { IfOk result (λ procs. All (All (Calls (length functions.now))) procs.items) }
-    ensures refused { IfErr result (IsNoProgram functions.now) }
+    ensures calls { IfOk result (λ procs. All (All (Calls (length functions.old))) procs.items) }
+    ensures refused { IfErr result (IsNoProgram functions.old) }
 {
+    let count = functions.len();
     let mut procs = Vec::new(alloc);
-    for (number, function) in functions.iter().enumerate() {
-        match compile_one(alloc, functions.len(), number, function) {
+    for (number, function) in functions.iter_mut().enumerate() {
+        match compile_one(alloc, count, number, function) {
             Ok(proc) => add(&mut procs, proc)?,
             Err(error) => return Err(error),
         }
@@ -74,17 +80,20 @@ fn compile_one(
     alloc: Global,
     procs: usize,
     number: usize,
-    function: &Function,
+    function: &mut Function,
 ) -> Result<Proc, ChoiceProgramError>
-    ensures compiled { IfOk result (IsCompiled function.now) }
+    ensures compiled { IfOk result (IsCompiled function.old) }
     ensures valid { IfOk result IsValidProc }
     ensures calls { IfOk result (All (Calls procs)) }
-    ensures wrong { IfErr result (IsWrong procs function.now number) }
+    ensures wrong { IfErr result (IsWrong procs function.old number) }
 {
     match compile_function(alloc, function) {
         Ok(proc) => {
             if are_calls(procs, proc.instrs()) {
-                Ok(proc)
+                match with_kept(alloc, procs, function, MOST_KEPT, proc) {
+                    Ok(best) => Ok(best),
+                    Err(_) => Err(ChoiceProgramError::NoMemory),
+                }
             } else {
                 Err(ChoiceProgramError::NoProcedure(number))
             }
