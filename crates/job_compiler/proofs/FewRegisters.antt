@@ -137,8 +137,7 @@ module _ (len : ℕ) where
       let other = m + stmt_size a t + over_size (stmt_size b t) in
       let ct = test_code c false other t at in
       let ca = stmt_code a t m labels ret in
-      let h2 = back ct _ h in
-      (
+      let h2 = back ct _ h in (
         test_low c false other t at (front ct _ h),
         stmt_low a t m labels ret (front ca _ h2),
         stmt_low b t other labels ret (back (over_code (stmt_size b t) (other + stmt_size b t)) _ (back ca _ h2)),

@@ -79,7 +79,7 @@ fn emit_exchanged(code: &mut VirtualCode, op: Operator, a: &Expr, b: &Expr, free
         + length (operand_code b.now (above a.now free)) + 1 ≤ MAX_BODY }
     ensures code { code.new ≡ code.old ++ (operand_code a.now free
         ++ (operand_code b.now (above a.now free)
-            ++ op_instr op free (operand b.now (above a.now free)) (operand a.now free) ∷ [])) }
+        ++ op_instr op free (operand b.now (above a.now free)) (operand a.now free) ∷ [])) }
     ensures len { length code.new ≡ length code.old + length (operand_code a.now free)
         + length (operand_code b.now (above a.now free)) + 1 }
 {
