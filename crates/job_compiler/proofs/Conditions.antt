@@ -1,5 +1,6 @@
 -- What the code of a condition does.
-use Rattle.std.proofs.Common.{◌≡◌, ℕ, zero, suc, ◌+◌, ◌<◌, ◌≤◌, ◌^◌, ℤ, pos, negsuc, Bool, true, false, not, if◌then◌else◌, List, [], ◌∷◌, ◌++◌, length, Option, Some, None, option_map, refl, ap, subst, ◌∙◌, FitsSigned, Box, Global}
+use Rattle.std.proofs.Common.{◌≡◌, ℕ, zero, suc, ◌+◌, ◌<◌, ◌≤◌, ◌^◌, ℤ, pos, negsuc, Bool, true, false, not, if◌then◌else◌, List, [], ◌∷◌, ◌++◌, length, Option, Some, None, option_map, refl, ap}
+use Rattle.std.proofs.Common.{subst, ◌∙◌, FitsSigned, Box, Global}
 use Rattle.std.proofs.Common.{arith, length-append}
 use Rattle.std.specs.Int.{w64}
 use Rattle.std.specs.Prelude.{slice_get, slice_index_or}

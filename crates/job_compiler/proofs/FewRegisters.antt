@@ -17,7 +17,8 @@ use Rattle.source_language.specs.declared.syntax.Stmt.{Stmt}
 use Rattle.source_language.specs.declared.syntax.Stmt.TheVariants.{Skip, Then', Assign, If', Loop', Repeat', Break, Continue, Return, Make, Wait, Cancel, Read, Store}
 use Rattle.source_language.specs.declared.syntax.Function.{Function}
 use Rattle.job_compiler.specs.declared.labels.Label.{Label}
-use Rattle.job_compiler.specs.Code.{op_instr, operand, above, register_for, operand_code, value_code, opposed, opposed_code, holds_code, over_size, over_code, test_size, test_code, make_instr, read_instr, stmt_size, stmt_code, loop_test}
+use Rattle.job_compiler.specs.Code.{op_instr, operand, above, register_for, operand_code, value_code, opposed, opposed_code, holds_code, over_size, over_code, test_size, test_code, make_instr}
+use Rattle.job_compiler.specs.Code.{read_instr, stmt_size, stmt_code, loop_test}
 use Rattle.job_compiler.specs.Code.{loop_label, function_code}
 use Rattle.job_compiler.specs.Registers.{IsOperandLow, IsValueLow, IsTestLow, IsMakerLow, IsStmtLow, FitsVirtualRegisters}
 

@@ -1,5 +1,6 @@
 -- A frame that has come to where a function is does what the function does next.
-use Rattle.std.proofs.Common.{◌≡◌, ℕ, ◌+◌, ◌<◌, ◌≤◌, ◌^◌, ℤ, pos, Bool, true, false, true≢false, if◌then◌else◌, List, [], ◌∷◌, ◌++◌, length, get_or, set, Option, Some, None, refl, sym, ap, subst, ◌∙◌, arith, inl}
+use Rattle.std.proofs.Common.{◌≡◌, ℕ, ◌+◌, ◌<◌, ◌≤◌, ◌^◌, ℤ, pos, Bool, true, false, true≢false, if◌then◌else◌, List, [], ◌∷◌, ◌++◌, length, get_or, set, Option, Some, None, refl, sym, ap, subst}
+use Rattle.std.proofs.Common.{◌∙◌, arith, inl}
 use Rattle.std.proofs.Common.{inr, ltb-false, length-set, FitsSigned}
 use Rattle.std.specs.Prelude.{nat_lt, slice_get, slice_set, slice_index_or}
 use Rattle.std.specs.Int.{w64}
@@ -20,7 +21,8 @@ use Rattle.source_language.specs.declared.syntax.Question.TheVariants.{Cancelled
 use Rattle.source_language.specs.Meaning.{Returns, Stores, Todo, Do, Turn, Next, Point, Act, Does, next_turn, past_loop, with_value, with_test, goes, made_by, asked_by, put_into, act_of, act_on}
 use Rattle.source_language.specs.Meaning.{answered, value_of, test_of}
 use Rattle.job_compiler.specs.Within.{IsStmtWithin, IsMakerWithin}
-use Rattle.job_compiler.specs.Code.{operand, operand_code, above, value_code, make_instr, read_instr, over_size, over_code, test_size, test_code, stmt_size, loop_test, loop_end, loop_label, after_of, next_of, register_for}
+use Rattle.job_compiler.specs.Code.{operand, operand_code, above, value_code, make_instr, read_instr, over_size, over_code, test_size, test_code, stmt_size, loop_test, loop_end, loop_label}
+use Rattle.job_compiler.specs.Code.{after_of, next_of, register_for}
 use Rattle.job_compiler.specs.Code.{stmt_code}
 use Rattle.job_compiler.specs.declared.labels.Label.{Label}
 use Rattle.job_compiler.specs.Operations.{operation_of, resumed}
@@ -28,7 +30,8 @@ use Rattle.job_compiler.proofs.Values.{FitsIf, value_fits}
 use Rattle.job_compiler.proofs.Steps.{AreAllKept, Agree, at, HasAt, has_front, has_back, Comes, comes_on, fails_on, stays, one_step, write, WritesIf, BringsIf, value_runs, operand_runs, operand_low}
 use Rattle.job_compiler.proofs.Steps.{above_high, still}
 use Rattle.job_compiler.proofs.Conditions.{JumpsIf, test_runs, test_length}
-use Rattle.job_compiler.proofs.Stands.{over_length, stmt_length, agree_written, agree_set, agree_put, put_long, Reaches, IsLoop, IsAt, past_place, next_place, Stands, Stops, Follows, continues, resumes_at}
+use Rattle.job_compiler.proofs.Stands.{over_length, stmt_length, agree_written, agree_set, agree_put, put_long, Reaches, IsLoop, IsAt, past_place, next_place, Stands, Stops, Follows, continues}
+use Rattle.job_compiler.proofs.Stands.{resumes_at}
 
 abbrev pt : List ℤ → List Todo → Point
 pt vars todo = record { vars = vars; todo = todo }
@@ -92,7 +95,9 @@ module _ (procs : List (List Instr)) (slot width p size n ret : ℕ) where
       (is_at : IsAt procs slot width p size n ret rest s.labels r) (wa : IsStmtWithin n a) (wb : IsStmtWithin n b) where
     behind : Reaches procs slot width p size n ret (s.q + test_size c false n + stmt_size a n + over_size (stmt_size b n) + stmt_size b n) r
     behind =
-        let e1 : s.q + (test_size c false n + stmt_size a n + over_size (stmt_size b n) + stmt_size b n) ≡ s.q + test_size c false n + stmt_size a n + over_size (stmt_size b n) + stmt_size b n = omega arith in
+        let first = test_size c false n + stmt_size a n in
+        let over = over_size (stmt_size b n) in
+        let e1 : s.q + (first + over + stmt_size b n) ≡ s.q + test_size c false n + stmt_size a n + over + stmt_size b n = omega arith in
         subst (λ k. Reaches procs slot width p size n ret k r) e1 reaches
 
     chosen : (o : Option Bool) → JumpsIf procs slot width p size s.q (s.q + test_size c false n + stmt_size a n + over_size (stmt_size b n)) (s.q + test_size c false n) s.regs n false o

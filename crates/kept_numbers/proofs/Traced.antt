@@ -1,5 +1,6 @@
 -- A function that keeps a number in a variable does what it did without.
-use Rattle.std.proofs.Common.{◌≡◌, ℕ, zero, suc, ◌+◌, ◌-◌, ◌<◌, ◌≤◌, ℤ, pos, Bool, true, false, true≢false, not, is_some, if◌then◌else◌, List, [], ◌∷◌, ◌++◌, length, map, get_or, set, replicate, Option, Some, None, option_map, refl, sym, ap, ap₂, subst, ◌∙◌, arith, FitsSigned, length-set}
+use Rattle.std.proofs.Common.{◌≡◌, ℕ, zero, suc, ◌+◌, ◌-◌, ◌<◌, ◌≤◌, ℤ, pos, Bool, true, false, true≢false, not, is_some, if◌then◌else◌, List, [], ◌∷◌, ◌++◌, length, map, get_or, set, replicate}
+use Rattle.std.proofs.Common.{Option, Some, None, option_map, refl, sym, ap, ap₂, subst, ◌∙◌, arith, FitsSigned, length-set}
 use Rattle.std.specs.Prelude.{slice_get, slice_index_or, slice_set}
 use Rattle.std.specs.Ordering.{int_eq}
 use Rattle.std.proofs.lemmas.Bool.Decides.{Decides-int_eq}
@@ -123,7 +124,8 @@ module _ (n : ℕ) (z : ℤ) where
         → with_value (value_of (kept_expr n z e) slot width (with_it vars)) f ≡ kept_act (with_value (value_of e slot width vars) g)
     value_then e h f g alike = ap (λ o. with_value o f) (expr_kept slot width vars long e h) ∙ by_value (value_of e slot width vars) f g alike
 
-    test_then : (c : Test) → IsTestWithin n c → (a b : Act) → with_test (test_of (kept_test n z c) slot width (with_it vars)) (kept_act a) (kept_act b) ≡ kept_act (with_test (test_of c slot width vars) a b)
+    test_then : (c : Test) → IsTestWithin n c → (a b : Act)
+        → with_test (test_of (kept_test n z c) slot width (with_it vars)) (kept_act a) (kept_act b) ≡ kept_act (with_test (test_of c slot width vars) a b)
     test_then c h a b = ap (λ o. with_test o (kept_act a) (kept_act b)) (test_kept slot width vars long c h) ∙ by_test (test_of c slot width vars) a b
 
     stmt_kept : (s : Stmt) (rest : List Todo) → IsStmtWithin n s → act_of (kept_stmt n z s) slot width (with_it vars) (map kept_todo rest) ≡ kept_act (act_of s slot width vars rest)

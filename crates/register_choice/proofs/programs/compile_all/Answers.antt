@@ -44,5 +44,8 @@ loop-number-preserved c =
     }
 
 pub returns-clause-compiled : goal.returns-clause-compiled
-returns-clause-compiled c = let fs = c.args.functions.now in
-    subst (λ xs. AllZip IsCompiled xs c.loop-number.procs.items) (take_all c.loop-number.number fs (omega (arith, c.loop-number.invariant.long, c.loop-number.invariant.count))) c.loop-number.invariant.compiled
+returns-clause-compiled c =
+    let fs = c.args.functions.now in
+    let kept = c.loop-number.invariant in
+    let all : take c.loop-number.number fs ≡ fs = take_all c.loop-number.number fs (omega (arith, kept.long, kept.count)) in
+    subst (λ xs. AllZip IsCompiled xs c.loop-number.procs.items) all kept.compiled
