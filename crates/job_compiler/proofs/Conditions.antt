@@ -15,8 +15,8 @@ use Rattle.source_language.specs.declared.syntax.Test.{Test}
 use Rattle.source_language.specs.declared.syntax.Test.TheVariants.{Holds, Not', Both', Either'}
 use Rattle.source_language.specs.Meaning.{is_nought, result_of, on_both, value_of, if_true, if_false, test_of}
 use Rattle.job_compiler.specs.Within.{IsWithin, IsTestWithin}
-use Rattle.job_compiler.specs.Code.{op_instr, operand, above, operand_code, opposed, opposed_code, holds_code, jumps, test_size, test_code}
-use Rattle.job_compiler.proofs.Opposites.{AreOpposed, below_opposed, at_most_opposed, equal_opposed, minus_opposed}
+use Rattle.job_compiler.specs.Code.{op_instr, operand, above, operand_code, opposed, opposed_code, jump_code, jumps, is_zero, compared, holds_size, holds_code, test_size, test_code}
+use Rattle.job_compiler.proofs.Opposites.{compared_same, AreOpposed, below_opposed, at_most_opposed, equal_opposed, minus_opposed}
 use Rattle.job_compiler.proofs.Values.{FitsIf, value_fits}
 use Rattle.job_compiler.proofs.Steps.{AreAllKept, Agree, at, HasAt, has_front, has_back, Comes, Fails, comes_on, fails_on, one_step, BringsIf, Brings, operand_runs, exchanged_runs, still}
 
@@ -32,13 +32,17 @@ opposed_length o (Two' op p a q b) t =
     let j = op_instr o t (operand b (above a t)) (operand a t) in
     omega (arith, length-append ca (cb ++ i ∷ []), length-append cb (i ∷ []), length-append ca (cb ++ j ∷ []), length-append cb (j ∷ []))
 
-holds_length : (w : Bool) (o : Option Operator) (e : Expr) (to t at : ℕ) → length (holds_code w o e to t at) ≡ length (operand_code e t) + jumps w o
-holds_length false o e to t at = length-append (operand_code e t) (instr.Jz (operand e t) to ∷ [])
-holds_length true None e to t at = length-append (operand_code e t) (instr.Jz (operand e t) (at + length (operand_code e t) + 2) ∷ instr.Jmp to ∷ [])
-holds_length true (Some o) e to t at = length-append (opposed_code o e t) (instr.Jz t to ∷ []) ∙ ap (λ k. k + 1) (opposed_length o e t)
+jump_length : (w : Bool) (o : Option Operator) (e : Expr) (to t at : ℕ) → length (jump_code w o e to t at) ≡ length (operand_code e t) + jumps w o
+jump_length false o e to t at = length-append (operand_code e t) (instr.Jz (operand e t) to ∷ [])
+jump_length true None e to t at = length-append (operand_code e t) (instr.Jz (operand e t) (at + length (operand_code e t) + 2) ∷ instr.Jmp to ∷ [])
+jump_length true (Some o) e to t at = length-append (opposed_code o e t) (instr.Jz t to ∷ []) ∙ ap (λ k. k + 1) (opposed_length o e t)
+
+compared_length : (o : Option Expr) (e : Expr) (w : Bool) (to t at : ℕ) → length (holds_code o e w to t at) ≡ holds_size o e w t
+compared_length (Some a) e w to t at = jump_length (not w) (opposed a) a to t at
+compared_length None e w to t at = jump_length w (opposed e) e to t at
 
 pub test_length : (c : Test) (w : Bool) (to t at : ℕ) → length (test_code c w to t at) ≡ test_size c w t
-test_length (Holds e) w to t at = holds_length w (opposed e) e to t at
+test_length (Holds e) w to t at = compared_length (compared e) e w to t at
 test_length (Not' p c) w to t at = test_length c (not w) to t at
 test_length (Both' p a q b) w to t at =
     let m = at + test_size a false t in
@@ -163,7 +167,7 @@ module _ (procs : List (List Instr)) (slot width p size : ℕ) where
 
   module _ (valid : (k : ℕ) (i : Instr) → slice_get (slice_index_or procs p []) k ≡ Some i → WritesBelow size i) (low_slot : slot < 2 ^ 8) (low_width : width < 2 ^ 8) where
     abbrev SoRuns : Expr → Option Operator → Type 0
-    SoRuns e o = (n to t pc : ℕ) (vars regs : List ℤ) → IsWithin n e → n ≤ t → Agree size n vars regs → HasAt procs slot width p size pc (holds_code true o e to t pc)
+    SoRuns e o = (n to t pc : ℕ) (vars regs : List ℤ) → IsWithin n e → n ≤ t → Agree size n vars regs → HasAt procs slot width p size pc (jump_code true o e to t pc)
         → JumpsIf pc to (pc + (length (operand_code e t) + jumps true o)) regs t true (test_of (Holds e) slot width vars)
 
     past : (e : Expr) → SoRuns e None
@@ -204,15 +208,48 @@ module _ (procs : List (List Instr)) (slot width p size : ℕ) where
     so_runs Slot = past Slot
     so_runs Width = past Width
 
-    pub test_runs : (c : Test) (w : Bool) (n to t pc : ℕ) (vars regs : List ℤ) → IsTestWithin n c → n ≤ t → Agree size n vars regs → HasAt procs slot width p size pc (test_code c w to t pc)
-        → JumpsIf pc to (pc + test_size c w t) regs t w (test_of c slot width vars)
-    test_runs (Holds e) true n to t pc vars regs h le agree has = so_runs e n to t pc vars regs h le agree has
-    test_runs (Holds e) false n to t pc vars regs h le agree has =
+    abbrev HeldRuns : Expr → Option Expr → Type 0
+    HeldRuns e o = (w : Bool) (n to t pc : ℕ) (vars regs : List ℤ) → IsWithin n e → n ≤ t → Agree size n vars regs → HasAt procs slot width p size pc (holds_code o e w to t pc)
+        → JumpsIf pc to (pc + holds_size o e w t) regs t w (test_of (Holds e) slot width vars)
+
+    plain_runs : (e : Expr) → HeldRuns e None
+    plain_runs e true n to t pc vars regs h le agree has = so_runs e n to t pc vars regs h le agree has
+    plain_runs e false n to t pc vars regs h le agree has =
         let ce = operand_code e t in
         let e1 : pc + length ce + 1 ≡ pc + (length ce + 1) = omega arith in
         ends_at pc to _ _ regs t false (test_of (Holds e) slot width vars) e1
         (not_runs to (operand e t) pc (pc + length ce) t regs (value_of e slot width vars) (has_back procs slot width p size pc ce _ has).0
         (operand_runs procs slot width p size valid low_slot low_width e n t pc vars regs h le agree (has_front procs slot width p size pc ce _ has)))
+
+    -- a comparison with 0
+    zero_runs : (q : Box (Unit {0}) Global) (a : Expr) (r : Box (Unit {0}) Global) (b : Expr) (z : Bool) → is_zero b ≡ z → HeldRuns (Two' Equal q a r b) (if z then Some a else None)
+    zero_runs q a r b false e w n to t pc vars regs h le agree has = plain_runs (Two' Equal q a r b) w n to t pc vars regs h le agree has
+    zero_runs q a r b true e w n to t pc vars regs h le agree has =
+        subst (JumpsIf pc to (pc + holds_size (Some a) (Two' Equal q a r b) w t) regs t w) (compared_same b slot width vars (value_of a slot width vars) e)
+        (flipped pc to _ regs t w (test_of (Holds a) slot width vars) (plain_runs a (not w) n to t pc vars regs h.0 le agree has))
+
+    held_runs : (e : Expr) → HeldRuns e (compared e)
+    held_runs (Two' Equal q a r b) = zero_runs q a r b (is_zero b) refl
+    held_runs (Two' Below q a r b) = plain_runs (Two' Below q a r b)
+    held_runs (Two' AtMost q a r b) = plain_runs (Two' AtMost q a r b)
+    held_runs (Two' Minus q a r b) = plain_runs (Two' Minus q a r b)
+    held_runs (Two' Plus q a r b) = plain_runs (Two' Plus q a r b)
+    held_runs (Two' Times q a r b) = plain_runs (Two' Times q a r b)
+    held_runs (Two' Over q a r b) = plain_runs (Two' Over q a r b)
+    held_runs (Two' Remainder q a r b) = plain_runs (Two' Remainder q a r b)
+    held_runs (Two' BitAnd q a r b) = plain_runs (Two' BitAnd q a r b)
+    held_runs (Two' BitOr q a r b) = plain_runs (Two' BitOr q a r b)
+    held_runs (Two' BitXor q a r b) = plain_runs (Two' BitXor q a r b)
+    held_runs (Two' ShiftLeft q a r b) = plain_runs (Two' ShiftLeft q a r b)
+    held_runs (Two' ShiftRight q a r b) = plain_runs (Two' ShiftRight q a r b)
+    held_runs (Number z) = plain_runs (Number z)
+    held_runs (Variable x) = plain_runs (Variable x)
+    held_runs Slot = plain_runs Slot
+    held_runs Width = plain_runs Width
+
+    pub test_runs : (c : Test) (w : Bool) (n to t pc : ℕ) (vars regs : List ℤ) → IsTestWithin n c → n ≤ t → Agree size n vars regs → HasAt procs slot width p size pc (test_code c w to t pc)
+        → JumpsIf pc to (pc + test_size c w t) regs t w (test_of c slot width vars)
+    test_runs (Holds e) w n to t pc vars regs h le agree has = held_runs e w n to t pc vars regs h le agree has
     test_runs (Not' q c) w n to t pc vars regs h le agree has = flipped pc to _ regs t w (test_of c slot width vars) (test_runs c (not w) n to t pc vars regs h le agree has)
     test_runs (Both' q a r b) w n to t pc vars regs h le agree has =
         let m = pc + test_size a false t in

@@ -17,10 +17,11 @@ use Rattle.source_language.specs.declared.syntax.Stmt.{Stmt}
 use Rattle.source_language.specs.declared.syntax.Stmt.TheVariants.{Skip, Then', Assign, If', Loop', Repeat', Break, Continue, Return, Make, Wait, Cancel, Read, Store}
 use Rattle.source_language.specs.declared.syntax.Function.{Function}
 use Rattle.job_compiler.specs.declared.labels.Label.{Label}
-use Rattle.job_compiler.specs.Code.{op_instr, operand, above, register_for, operand_code, value_code, opposed, opposed_code, holds_code, over_size, over_code, test_size, test_code, make_instr}
+use Rattle.job_compiler.specs.Code.{op_instr, operand, above, register_for, operand_code, value_code, opposed, opposed_code, jump_code, compared, holds_code, over_size, over_code, test_size}
+use Rattle.job_compiler.specs.Code.{test_code, make_instr}
 use Rattle.job_compiler.specs.Code.{read_instr, stmt_size, stmt_code, loop_test}
 use Rattle.job_compiler.specs.Code.{loop_label, function_code}
-use Rattle.job_compiler.specs.Registers.{IsOperandLow, IsValueLow, IsTestLow, IsMakerLow, IsStmtLow, FitsVirtualRegisters}
+use Rattle.job_compiler.specs.Registers.{IsOperandLow, IsValueLow, IsHeldLow, IsTestLow, IsMakerLow, IsStmtLow, FitsVirtualRegisters}
 
 pub all_of : {X : Type 0} (P : X → Type 0) (xs : List X) → All P xs → AllByRecursion P xs
 all_of P [] h = tt
@@ -80,10 +81,10 @@ module _ (len : ℕ) where
       let o = op_low op d (operand a t) (operand b (above a t)) (back cb _ hb) in
       (up d o.0, (operand_low a t (front ca _ h) o.1, operand_low b (above a t) (front cb _ hb) o.2))
 
-  past_low : (e : Expr) (to t at : ℕ) → Good (holds_code true None e to t at) → IsOperandLow 255 e t
+  past_low : (e : Expr) (to t at : ℕ) → Good (jump_code true None e to t at) → IsOperandLow 255 e t
   past_low e to t at h = let ce = operand_code e t in operand_low e t (front ce _ h) (back ce _ h).0.0
 
-  two_low : (o : Option Operator) (op : Operator) (p : Box (Unit {0}) Global) (a : Expr) (q : Box (Unit {0}) Global) (b : Expr) (to t at : ℕ) → Good (holds_code true o (Two' op p a q b) to t at)
+  two_low : (o : Option Operator) (op : Operator) (p : Box (Unit {0}) Global) (a : Expr) (q : Box (Unit {0}) Global) (b : Expr) (to t at : ℕ) → Good (jump_code true o (Two' op p a q b) to t at)
       → IsOperandLow 255 (Two' op p a q b) t
   two_low None op p a q b to t at h = past_low (Two' op p a q b) to t at h
   two_low (Some o) op p a q b to t at h =
@@ -94,16 +95,23 @@ module _ (len : ℕ) where
       let r = op_low o t (operand b (above a t)) (operand a t) (back cb _ hb) in
       (operand_low a t (front ca _ code) r.2, operand_low b (above a t) (front cb _ hb) r.1, up t r.0)
 
-  so_low : (e : Expr) (to t at : ℕ) → Good (holds_code true (opposed e) e to t at) → IsOperandLow 255 e t
+  so_low : (e : Expr) (to t at : ℕ) → Good (jump_code true (opposed e) e to t at) → IsOperandLow 255 e t
   so_low (Number z) to t at h = past_low (Number z) to t at h
   so_low (Variable x) to t at h = past_low (Variable x) to t at h
   so_low Slot to t at h = past_low Slot to t at h
   so_low Width to t at h = past_low Width to t at h
   so_low (Two' op p a q b) to t at h = two_low (opposed (Two' op p a q b)) op p a q b to t at h
 
+  jump_low : (e : Expr) (w : Bool) (to t at : ℕ) → Good (jump_code w (opposed e) e to t at) → IsOperandLow 255 e t
+  jump_low e true to t at h = so_low e to t at h
+  jump_low e false to t at h = let ce = operand_code e t in operand_low e t (front ce _ h) (back ce _ h).0.0
+
+  held_low : (o : Option Expr) (e : Expr) (w : Bool) (to t at : ℕ) → Good (holds_code o e w to t at) → IsHeldLow 255 o e t
+  held_low (Some a) e w to t at h = jump_low a (not w) to t at h
+  held_low None e w to t at h = jump_low e w to t at h
+
   test_low : (c : Test) (w : Bool) (to t at : ℕ) → Good (test_code c w to t at) → IsTestLow 255 c t
-  test_low (Holds e) true to t at h = so_low e to t at h
-  test_low (Holds e) false to t at h = let ce = operand_code e t in operand_low e t (front ce _ h) (back ce _ h).0.0
+  test_low (Holds e) w to t at h = held_low (compared e) e w to t at h
   test_low (Not' p c) w to t at h = test_low c (not w) to t at h
   test_low (Both' p a q b) w to t at h =
       let m = at + test_size a false t in

@@ -1,12 +1,16 @@
 -- An operator gives 0 exactly if its opposite, of the same numbers exchanged, does not.
-use Rattle.std.proofs.Common.{◌≡◌, ℕ, zero, suc, ◌+◌, ◌-◌, ◌<◌, ◌%◌, ◌^◌, ℤ, pos, negsuc, Bool, true, false, true≢false, not, if◌then◌else◌, Option, Some, None, refl, sym, ap, ◌∙◌, arith, FitsSigned}
+use Rattle.std.proofs.Common.{◌≡◌, ℕ, zero, suc, ◌+◌, ◌-◌, ◌<◌, ◌%◌, ◌^◌, ℤ, pos, negsuc, Bool, true, false, true≢false, not, if◌then◌else◌, List, Option, Some, None, option_map, refl, sym, ap, ◌∙◌, arith, FitsSigned}
 use Rattle.std.specs.Prelude.{int_lt, int_le}
 use Rattle.std.specs.Int.{int_wrapping_sub, cast_unsigned, cast_signed, w64}
 use Rattle.std.specs.Ordering.{int_eq}
 use Rattle.std.proofs.lemmas.Bool.Decides.{Decides-int_eq}
 use Rattle.std.proofs.lemmas.Int.{ints, of_z-to_z, to_z-of_z}
 use mir.ValLaws.{of_z_fits}
-use Rattle.source_language.specs.Meaning.{is_nought}
+use Rattle.source_language.specs.declared.syntax.Operator.TheVariants.{Equal}
+use Rattle.source_language.specs.declared.syntax.Expr.{Expr}
+use Rattle.source_language.specs.declared.syntax.Expr.TheVariants.{Number, Variable, Slot, Width, Two'}
+use Rattle.source_language.specs.Meaning.{is_nought, result_of, on_both, value_of}
+use Rattle.job_compiler.specs.Code.{is_zero}
 
 -- of two results one is 0 and the other is not
 abbrev pub AreOpposed : Option ℤ → Option ℤ → Type 0
@@ -82,3 +86,30 @@ equal_opposed x y fx fy = sub_nought x y fx fy ∙ sym (ap not (bit_nought (int_
 
 pub minus_opposed : (x y : ℤ) → FitsSigned w64 x → FitsSigned w64 y → is_nought (if int_eq y x then pos 1 else pos 0) ≡ not (is_nought (int_wrapping_sub w64 x y))
 minus_opposed x y fx fy = bit_nought (int_eq y x) ∙ ap not (sym (sub_nought y x fy fx))
+
+zero_is : (x : ℤ) → is_nought x ≡ int_eq x (pos 0)
+zero_is x = by (is_nought x) (int_eq x (pos 0)) refl refl
+  where
+    nought : (z : ℤ) → is_nought z ≡ true → z ≡ pos 0
+    nought (pos zero) e = refl
+    nought (pos (suc n)) e = absurd (true≢false (sym e))
+    nought (negsuc n) e = absurd (true≢false (sym e))
+
+    by : (s t : Bool) → is_nought x ≡ s → int_eq x (pos 0) ≡ t → s ≡ t
+    by true true e f = refl
+    by false false e f = refl
+    by true false e f = sym ((Decides-int_eq x (pos 0)).1 (nought x e)) ∙ f
+    by false true e f = sym e ∙ ap is_nought ((Decides-int_eq x (pos 0)).0 f)
+
+-- A comparison with 0 holds exactly if the value is 0.
+pub compared_same : (b : Expr) (slot width : ℕ) (vars : List ℤ) (o : Option ℤ) → is_zero b ≡ true
+    → option_map not (option_map (λ v. not (is_nought v)) o) ≡ option_map (λ v. not (is_nought v)) (on_both (result_of Equal) o (value_of b slot width vars))
+compared_same b slot width vars None e = refl
+compared_same (Number (pos zero)) slot width vars (Some x) e =
+    ap Some (twice (is_nought x) ∙ zero_is x ∙ sym (ap not (bit_nought (int_eq x (pos 0))) ∙ twice (int_eq x (pos 0))))
+compared_same (Number (pos (suc n))) slot width vars (Some x) e = absurd (true≢false (sym e))
+compared_same (Number (negsuc n)) slot width vars (Some x) e = absurd (true≢false (sym e))
+compared_same (Variable y) slot width vars (Some x) e = absurd (true≢false (sym e))
+compared_same Slot slot width vars (Some x) e = absurd (true≢false (sym e))
+compared_same Width slot width vars (Some x) e = absurd (true≢false (sym e))
+compared_same (Two' op p c q d) slot width vars (Some x) e = absurd (true≢false (sym e))

@@ -15,6 +15,7 @@ use Rattle.source_language.specs.declared.syntax.Question.TheVariants.{Cancelled
 use Rattle.source_language.specs.declared.syntax.Stmt.{Stmt}
 use Rattle.source_language.specs.declared.syntax.Stmt.TheVariants.{Skip, Then', Assign, If', Loop', Repeat', Break, Continue, Return, Make, Wait, Cancel, Read, Store}
 use Rattle.source_language.specs.declared.syntax.Function.{Function}
+use Rattle.source_language.specs.Meaning.{is_nought}
 use Rattle.job_compiler.specs.declared.labels.Label.{Label}
 
 -- the instruction of an operator
@@ -83,25 +84,42 @@ opposed_code o (Two' op p a q b) t = operand_code a t ++ (operand_code b (above 
 opposed_code o e t = operand_code e t
 
 -- Jumps if an expression is 0, or if it is not: with its opposite, if it has one, and else past another jump.
-abbrev pub holds_code : (want : Bool) → Option Operator → Expr → (to free at : ℕ) → List Instr
-holds_code false o e to t at = operand_code e t ++ instr.Jz (operand e t) to ∷ []
-holds_code true (Some o) e to t at = opposed_code o e t ++ instr.Jz t to ∷ []
-holds_code true None e to t at = operand_code e t ++ instr.Jz (operand e t) (at + length (operand_code e t) + 2) ∷ instr.Jmp to ∷ []
+abbrev pub jump_code : (want : Bool) → Option Operator → Expr → (to free at : ℕ) → List Instr
+jump_code false o e to t at = operand_code e t ++ instr.Jz (operand e t) to ∷ []
+jump_code true (Some o) e to t at = opposed_code o e t ++ instr.Jz t to ∷ []
+jump_code true None e to t at = operand_code e t ++ instr.Jz (operand e t) (at + length (operand_code e t) + 2) ∷ instr.Jmp to ∷ []
 
 abbrev pub jumps : (want : Bool) → Option Operator → ℕ
 jumps false o = 1
 jumps true (Some o) = 1
 jumps true None = 2
 
+abbrev pub is_zero : Expr → Bool
+is_zero (Number z) = is_nought z
+is_zero e = false
+
+-- what is only compared with 0: that holds exactly if it is 0
+abbrev pub compared : Expr → Option Expr
+compared (Two' Equal p a q b) = if is_zero b then Some a else None
+compared e = None
+
+abbrev pub holds_size : Option Expr → Expr → (want : Bool) → (free : ℕ) → ℕ
+holds_size (Some a) e w t = length (operand_code a t) + jumps (not w) (opposed a)
+holds_size None e w t = length (operand_code e t) + jumps w (opposed e)
+
+abbrev pub holds_code : Option Expr → Expr → (want : Bool) → (to free at : ℕ) → List Instr
+holds_code (Some a) e w to t at = jump_code (not w) (opposed a) a to t at
+holds_code None e w to t at = jump_code w (opposed e) e to t at
+
 abbrev pub test_size : Test → (want : Bool) → (free : ℕ) → ℕ
-test_size (Holds e) w t = length (operand_code e t) + jumps w (opposed e)
+test_size (Holds e) w t = holds_size (compared e) e w t
 test_size (Not' p c) w t = test_size c (not w) t
 test_size (Both' p a q b) w t = test_size a false t + test_size b w t
 test_size (Either' p a q b) w t = test_size a true t + test_size b w t
 
 -- jumps to `to` if the condition is as wanted, and goes on behind the code if not
 abbrev pub test_code : Test → (want : Bool) → (to free at : ℕ) → List Instr
-test_code (Holds e) w to t at = holds_code w (opposed e) e to t at
+test_code (Holds e) w to t at = holds_code (compared e) e w to t at
 test_code (Not' p c) w to t at = test_code c (not w) to t at
 test_code (Both' p a q b) w to t at =
     let m = at + test_size a false t in test_code a false (if w then m + test_size b w t else to) t at ++ test_code b w to t m

@@ -10,7 +10,7 @@ use Rattle.source_language.specs.declared.syntax.Maker.TheVariants.{Spawn, Post,
 use Rattle.source_language.specs.declared.syntax.Stmt.{Stmt}
 use Rattle.source_language.specs.declared.syntax.Stmt.TheVariants.{Skip, Then', Assign, If', Loop', Repeat', Break, Continue, Return, Make, Wait, Cancel, Read, Store}
 use Rattle.source_language.specs.declared.syntax.Function.{Function}
-use Rattle.job_compiler.specs.Code.{above, register_for}
+use Rattle.job_compiler.specs.Code.{above, compared, register_for}
 
 -- an operand, and what its code writes
 abbrev pub IsOperandLow : (most : ℕ) → Expr → (free : ℕ) → Type 0
@@ -33,8 +33,13 @@ abbrev pub IsWantedLow : (most : ℕ) → Expr → (into : Option ℕ) → (free
 IsWantedLow m e None t = IsOperandLow m e t
 IsWantedLow m e (Some d) t = IsValueLow m e t
 
+-- what a condition looks at
+abbrev pub IsHeldLow : (most : ℕ) → Option Expr → Expr → (free : ℕ) → Type 0
+IsHeldLow m (Some a) e t = IsOperandLow m a t
+IsHeldLow m None e t = IsOperandLow m e t
+
 abbrev pub IsTestLow : (most : ℕ) → Test → (free : ℕ) → Type 0
-IsTestLow m (Holds e) t = IsOperandLow m e t
+IsTestLow m (Holds e) t = IsHeldLow m (compared e) e t
 IsTestLow m (Not' p c) t = IsTestLow m c t
 IsTestLow m (Both' p a q b) t = IsTestLow m a t × IsTestLow m b t
 IsTestLow m (Either' p a q b) t = IsTestLow m a t × IsTestLow m b t

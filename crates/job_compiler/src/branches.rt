@@ -1,12 +1,12 @@
 // The code of a condition, and the jumps of a choice.
 ghost use Rattle.std.specs.Prelude.{◌≡◌, ◌+◌, ◌≤◌, [], ◌∷◌, ◌++◌, length, true, None, if◌then◌else◌};
-ghost use Rattle.job_compiler.specs.Code.{op_instr, above, operand, operand_code, opposed, holds_code, jumps, over_size, over_code, test_size, test_code};
+ghost use Rattle.job_compiler.specs.Code.{op_instr, above, operand, operand_code, opposed, jump_code, jumps, over_size, over_code, test_size, test_code};
 ghost use Rattle.job_language.specs.declared.instructions.Instr.TheVariants.{Jz};
 ghost use Rattle.job_compiler.specs.Registers.{IsOperandLow, IsTestLow};
 
 use crate::emit::{emit_expr, operand};
 use crate::registers::VIRTUAL_REGISTERS;
-use crate::sizes::{MAX_BODY, above, opposite, size_of_test};
+use crate::sizes::{MAX_BODY, above, compared, opposite, size_of_test};
 use crate::virtuals::{VirtualCode, VirtualInstr};
 use source_language::{Expr, Operator, Test};
 
@@ -18,13 +18,10 @@ pub(crate) fn emit_test(code: &mut VirtualCode, c: &Test, want: bool, to: u8, fr
     ensures len { length code.new ≡ length code.old + test_size c.now want free }
 {
     match c {
-        Test::Holds(e) => {
-            if want {
-                emit_if_so(code, e, to, free);
-            } else {
-                emit_if_not(code, e, to, free);
-            }
-        }
+        Test::Holds(e) => match compared(e) {
+            Some(a) => emit_jump(code, a, !want, to, free),
+            None => emit_jump(code, e, want, to, free),
+        },
         Test::Not(t) => emit_test(code, t, !want, to, free),
         Test::Both(a, b) => {
             let after = code.next() + size_of_test(c, want, free);
@@ -62,7 +59,7 @@ fn emit_past(code: &mut VirtualCode, e: &Expr, to: u8, free: u8)
     requires low { IsOperandLow VIRTUAL_REGISTERS e.now free }
     requires room { length code.old + length (operand_code e.now free) + 2 ≤ MAX_BODY }
     ensures code { code.new ≡ code.old
-        ++ holds_code true None e.now to free (length code.old) }
+        ++ jump_code true None e.now to free (length code.old) }
     ensures len { length code.new ≡ length code.old + length (operand_code e.now free) + 2 }
 {
     emit_expr(code, e, None, free);
@@ -96,7 +93,7 @@ fn emit_if_so(code: &mut VirtualCode, e: &Expr, to: u8, free: u8)
     requires low { IsOperandLow VIRTUAL_REGISTERS e.now free }
     requires room { length code.old + (length (operand_code e.now free) + jumps true (opposed e.now)) ≤ MAX_BODY }
     ensures code { code.new ≡ code.old
-        ++ holds_code true (opposed e.now) e.now to free (length code.old) }
+        ++ jump_code true (opposed e.now) e.now to free (length code.old) }
     ensures len { length code.new
         ≡ length code.old + (length (operand_code e.now free) + jumps true (opposed e.now)) }
 {
@@ -112,6 +109,22 @@ fn emit_if_so(code: &mut VirtualCode, e: &Expr, to: u8, free: u8)
         Expr::Variable(_) => emit_past(code, e, to, free),
         Expr::Slot => emit_past(code, e, to, free),
         Expr::Width => emit_past(code, e, to, free),
+    }
+}
+
+// A jump if an expression is 0, or if it is not.
+fn emit_jump(code: &mut VirtualCode, e: &Expr, want: bool, to: u8, free: u8)
+    requires low { IsOperandLow VIRTUAL_REGISTERS e.now free }
+    requires room { length code.old + (length (operand_code e.now free) + jumps want (opposed e.now)) ≤ MAX_BODY }
+    ensures code { code.new ≡ code.old
+        ++ jump_code want (opposed e.now) e.now to free (length code.old) }
+    ensures len { length code.new
+        ≡ length code.old + (length (operand_code e.now free) + jumps want (opposed e.now)) }
+{
+    if want {
+        emit_if_so(code, e, to, free);
+    } else {
+        emit_if_not(code, e, to, free);
     }
 }
 

@@ -3,6 +3,7 @@ ghost use Rattle.std.specs.Prelude.{IsTrue, ◌≡◌, ◌+◌, ◌<◌, ◌↔�
 ghost use Rattle.job_compiler.specs.Code.{above, register_for};
 ghost use Rattle.job_compiler.specs.Registers.{IsOperandLow, IsValueLow, IsTestLow, IsMakerLow, IsStmtLow};
 
+use crate::sizes::compared;
 use source_language::{Expr, Maker, Stmt, Test};
 
 /// How many virtual registers there are.
@@ -55,7 +56,10 @@ fn test_low(c: &Test, free: u8) -> bool
     ensures { IsTrue result ↔ IsTestLow VIRTUAL_REGISTERS c.now free }
 {
     match c {
-        Test::Holds(e) => operand_low(e, free).is_some(),
+        Test::Holds(e) => match compared(e) {
+            Some(a) => operand_low(a, free).is_some(),
+            None => operand_low(e, free).is_some(),
+        },
         Test::Not(t) => test_low(t, free),
         Test::Both(a, b) => test_low(a, free) && test_low(b, free),
         Test::Either(a, b) => test_low(a, free) && test_low(b, free),

@@ -1,6 +1,6 @@
 // How many instructions there will be.
-ghost use Rattle.std.specs.Prelude.{◌≡◌, ◌+◌, ◌≤◌, length, SomeIff};
-ghost use Rattle.job_compiler.specs.Code.{above, opposite, opposed, jumps, over_size, test_size, stmt_size};
+ghost use Rattle.std.specs.Prelude.{◌≡◌, ◌+◌, ◌≤◌, length, option_map, SomeIff};
+ghost use Rattle.job_compiler.specs.Code.{above, operand_code, opposite, opposed, is_zero, compared, jumps, over_size, test_size, stmt_size};
 ghost use Rattle.job_compiler.specs.Registers.{IsOperandLow, IsWantedLow, IsTestLow, IsStmtLow};
 ghost use Rattle.job_compiler.specs.Wanted.{wanted_code};
 
@@ -104,12 +104,45 @@ pub(crate) fn over_size(size: u8) -> u8
     if 0 < size { 1 } else { 0 }
 }
 
+fn is_zero(e: &Expr) -> bool
+    ensures { result ≡ is_zero e.now }
+{
+    match e {
+        Expr::Number(n) => *n == 0,
+        Expr::Variable(_) => false,
+        Expr::Slot => false,
+        Expr::Width => false,
+        Expr::Two(_, _, _) => false,
+    }
+}
+
+/// What is only compared with 0: that holds exactly if it is 0.
+pub(crate) fn compared(e: &Expr) -> Option<&Expr>
+    ensures { option_map (λ a. a.now) result ≡ compared e.now }
+{
+    match e {
+        Expr::Two(Operator::Equal, a, b) => { if is_zero(b) { Some(a) } else { None } }
+        _ => None,
+    }
+}
+
+fn jump_size(e: &Expr, want: bool, free: u8) -> Option<u8>
+    requires { IsOperandLow VIRTUAL_REGISTERS e.now free }
+    ensures { SomeIff result (length (operand_code e.now free) + jumps want (opposed e.now) ≤ MAX_BODY)
+        (length (operand_code e.now free) + jumps want (opposed e.now)) }
+{
+    sum(expr_size(e, None, free)?, jumps(want, opposed(e)))
+}
+
 fn test_size(c: &Test, want: bool, free: u8) -> Option<u8>
     requires { IsTestLow VIRTUAL_REGISTERS c.now free }
     ensures { SomeIff result (test_size c.now want free ≤ MAX_BODY) (test_size c.now want free) }
 {
     match c {
-        Test::Holds(e) => sum(expr_size(e, None, free)?, jumps(want, opposed(e))),
+        Test::Holds(e) => match compared(e) {
+            Some(a) => jump_size(a, !want, free),
+            None => jump_size(e, want, free),
+        },
         Test::Not(t) => test_size(t, !want, free),
         Test::Both(a, b) => sum(test_size(a, false, free)?, test_size(b, want, free)?),
         Test::Either(a, b) => sum(test_size(a, true, free)?, test_size(b, want, free)?),
