@@ -1,5 +1,6 @@
 -- An operator gives 0 exactly if its opposite, of the same numbers exchanged, does not.
-use Rattle.std.proofs.Common.{◌≡◌, ℕ, zero, suc, ◌+◌, ◌-◌, ◌<◌, ◌%◌, ◌^◌, ℤ, pos, negsuc, Bool, true, false, true≢false, not, if◌then◌else◌, List, Option, Some, None, option_map, refl, sym, ap, ◌∙◌, arith, FitsSigned}
+use Rattle.std.proofs.Common.{◌≡◌, ℕ, zero, suc, ◌+◌, ◌-◌, ◌<◌, ◌%◌, ◌^◌, ℤ, pos, negsuc, Bool, true, false, true≢false, not, if◌then◌else◌, List, Option, Some, None, option_map, refl, sym, ap}
+use Rattle.std.proofs.Common.{◌∙◌, arith, FitsSigned}
 use Rattle.std.specs.Prelude.{int_lt, int_le}
 use Rattle.std.specs.Int.{int_wrapping_sub, cast_unsigned, cast_signed, w64}
 use Rattle.std.specs.Ordering.{int_eq}
