@@ -1,5 +1,5 @@
 // Which number a function reads most. Nothing rests on this choice.
-use source_language::{Expr, Function, Stmt, Test};
+use source_language::{Expr, Function, Operator, Stmt, Test};
 
 /// How many numbers are counted.
 const COUNTED: usize = 16;
@@ -57,9 +57,22 @@ impl Counts {
         }
     }
 
+    // The same of a condition: a 0 with which a value is compared is not needed.
+    fn add_held(&mut self, e: &Expr, times: u32) {
+        match e {
+            Expr::Two(Operator::Equal, a, b) => {
+                self.add_expr(a, times);
+                if !is_zero(b) {
+                    self.add_expr(b, times);
+                }
+            }
+            _ => self.add_expr(e, times),
+        }
+    }
+
     fn add_test(&mut self, c: &Test, times: u32) {
         match c {
-            Test::Holds(e) => self.add_expr(e, times),
+            Test::Holds(e) => self.add_held(e, times),
             Test::Not(t) => self.add_test(t, times),
             Test::Both(a, b) => {
                 self.add_test(a, times);
@@ -108,6 +121,10 @@ impl Counts {
             Stmt::Store(_, e) => self.add_expr(e, times),
         }
     }
+}
+
+fn is_zero(e: &Expr) -> bool {
+    matches!(e, Expr::Number(0))
 }
 
 /// The number that the function reads most often, where each loop is taken to turn some times: not counted is a number
