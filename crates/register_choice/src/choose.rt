@@ -1,20 +1,40 @@
 // A choice of registers, one virtual register after another: what the check then confirms.
-use crate::uses::{leads_to, writes};
+use crate::uses::{leads_to, reads, writes};
 use job_compiler::VirtualInstr;
 use job_language::REGISTERS;
 
 /// The colour of a virtual register that has none.
 const NONE: u8 = 255;
 
-/// The register of each virtual one: its own number if that is free, and else the lowest one that
+/// The register of each virtual one that is used: its own number if that is free, and else the lowest one that
 /// is. The first two keep the arguments.
 pub(crate) fn choose(instrs: &[VirtualInstr], live: &[[bool; 256]]) -> [u8; 256] {
     let mut colours = [NONE; 256];
+    let used = used_in(instrs);
     for u in 0..=255u8 {
-        let taken = taken(instrs, live, &colours, u);
-        colours[usize::from(u)] = free(&taken, u);
+        if used[usize::from(u)] {
+            let taken = taken(instrs, live, &colours, u);
+            colours[usize::from(u)] = free(&taken, u);
+        }
     }
     colours
+}
+
+// The virtual registers that some instruction reads or writes, and the arguments.
+fn used_in(instrs: &[VirtualInstr]) -> [bool; 256] {
+    let mut used = [false; 256];
+    used[0] = true;
+    used[1] = true;
+    for instr in instrs.iter() {
+        let read = reads(instr);
+        let written = writes(instr);
+        for register in [read.0, read.1, written.0, written.1] {
+            if let Some(u) = register {
+                used[usize::from(u)] = true;
+            }
+        }
+    }
+    used
 }
 
 // The lowest register that is not taken, or the number itself.
