@@ -1,6 +1,8 @@
 """The proved compiler, where it is there: which compiler makes a job, and what is said of it."""
 import os
 import pathlib
+import subprocess
+import sys
 import tempfile
 import unittest
 from unittest import mock
@@ -36,3 +38,40 @@ class Proving(unittest.TestCase):
         with tempfile.TemporaryDirectory() as room, mock.patch.dict(os.environ, {"PATH": room}):
             os.environ.pop("ARENA_COMPILE", None)
             self.assertIsNone(proved("fn main() { }\n", ()))
+
+
+class Building(unittest.TestCase):
+    """`arena build` beside a stand-in, which gives a job that the compiler in Python would not make."""
+
+    JOB = '{"args":[3,-1],"fuel":1000000,"procs":[[["sub",0,1,0],["ret",0]]]}'
+
+    def built(self, *words: str) -> tuple[str, str]:
+        """What `arena build` prints with these words, and its standard error without the program's path."""
+        with tempfile.TemporaryDirectory() as room:
+            program, source = pathlib.Path(room, "arena-compile"), pathlib.Path(room, "f.job")
+            program.write_text(f"#!/bin/sh\necho '{self.JOB}'\n")
+            program.chmod(0o755)
+            source.write_text("fn main(a, b) { return a + b }\n")
+            done = subprocess.run([sys.executable, "-m", "arena", "build", str(source), "--args", "3", "-1", *words],
+                                  capture_output=True, text=True, env={**os.environ, "ARENA_COMPILE": str(program)})
+            self.assertEqual(done.returncode, 0)
+            return done.stdout.strip(), done.stderr.strip().replace(f"{room}/", "")
+
+    def test_the_job_and_its_listing_are_of_the_same_compiler(self) -> None:
+        """What -S lists is what is built."""
+        self.assertEqual(self.built(), (self.JOB, "f.job: compiled by arena-compile"))
+        listing, said = self.built("-S")
+        self.assertEqual(said, "f.job: compiled by arena-compile")
+        self.assertIn("sub     r0 r1 r0", listing)
+
+    def test_python_builds_what_the_map_is_of(self) -> None:
+        """With --python the job, its listing and its map are of the compiler in Python, and nothing is said."""
+        job, said = self.built("--python")
+        self.assertEqual(said, "")
+        self.assertIn('"procs":[[["add",0,0,1],["ret",0]]]', job)
+        self.assertIn("; 0, line 1", self.built("-S", "--python")[0])
+        self.assertIn('"procs":[[["add",0,0,1],["ret",0]]]', self.built("--map", "--python")[0])
+
+    def test_a_map_beside_the_proved_compiler_says_which_job_it_is_of(self) -> None:
+        """The proved compiler tells no lines of the source."""
+        self.assertEqual(self.built("--map")[1], "f.job: the map is of the job compiled in Python, which --python builds")

@@ -3,7 +3,7 @@ import json
 
 from arena.command.call import Call
 from arena.command.output import GREEN
-from arena.command.proving import proved
+from arena.command.proving import Proved, proved
 from arena.command.sources import JobSource, SourceWrong, assembled, compiled, job_of, read_json, read_text, source_of
 from arena.command.words import JOB_WORDS, Command, Completes, Status, option
 
@@ -33,26 +33,37 @@ def build(call: Call) -> int:
     done = compiled(words.FILE, words)
     if words.serial:
         call.output.say("serial" if done.serial else "not serial", {"serial": bool(done.serial)})
-    elif words.S:
-        write(call, done.listing().rstrip("\n"))
-    elif words.map:
+        return Status.DONE
+    found = proved_of(call)
+    line = found.line if found else None
+    if words.map:
+        if line is not None:
+            call.output.complain(f"{words.FILE}: the map is of the job compiled in Python, which --python builds")
         write(call, line_of({**done.source_map(), "procs": done.job.to_value()["procs"]}))
+        return Status.DONE
+    if found is not None:
+        call.output.complain(found.told(words.FILE))
+    if words.S:
+        write(call, (done.listing() if line is None else listing_of(line)).rstrip("\n"))
     else:
-        write(call, proved_line(call) or line_of(done.job.to_value()))
+        write(call, line or line_of(done.job.to_value()))
     return Status.DONE
 
 
-def proved_line(call: Call) -> str | None:
-    """The JOB by the proved compiler, where that is there and takes the source as it stands. Standard error has which compiler
-    made it."""
+def proved_of(call: Call) -> Proved | None:
+    """What the proved compiler says of the source, where it is there, and unless a word asks for what only the one in Python
+    does."""
     words = call.words
-    if words.define or words.fuel is not None:
+    if words.python or words.define or words.fuel is not None:
         return None
-    found = proved(read_text(words.FILE), tuple(words.args or ()))
-    if found is None:
-        return None
-    call.output.complain(found.told(words.FILE))
-    return found.line
+    return proved(read_text(words.FILE), tuple(words.args or ()))
+
+
+def listing_of(line: str) -> str:
+    """The listing of a JOB of the proved compiler, which tells no names of registers and no lines of the source."""
+    from arena.assembler import disassemble
+    from arena.jobs import Job
+    return disassemble(Job.from_value(json.loads(line)))
 
 
 def asm(call: Call) -> int:
@@ -106,11 +117,13 @@ COMMANDS = (
             "Compiles a .job file to the JOB that the server reads, in JSON. -S writes the listing in its place, --map "
             "which line of the source each instruction is of (`arena stat --map` reads it), and --serial whether the "
             "job is serial. The JOB is that of arena-compile, which is proved, if ARENA_COMPILE or the PATH has it and it "
-            "takes the source, without -D and --fuel; standard error then says which compiler made it.",
+            "takes the source, without -D, --fuel and --python; standard error then says which compiler made it, and -S "
+            "lists its instructions without names and lines.",
             "arena build queens.job -D N=8 -o queens.json", build,
             (*JOB_WORDS, option("-S", help="the listing: labels, registers by name, source lines", action="store_true"),
              option("--map", help="the source line of each instruction, as JSON", action="store_true"),
-             option("--serial", help="say whether the job is serial", action="store_true"), TO)),
+             option("--serial", help="say whether the job is serial", action="store_true"),
+             option("--python", help="compile in Python, even where arena-compile is there", action="store_true"), TO)),
     Command("asm", "assemble a .jasm file to a JOB",
             "Assembles a .jasm file to the JOB that the server reads, in JSON.",
             "arena asm sum.jasm --args 100", asm, (*JOB_WORDS, TO)),
