@@ -1,6 +1,7 @@
 -- What leaves the body of a parallel loop, for one number of its range.
-use Rattle.std.specs.Prelude.{ℕ, ◌+◌, nat_lt, List, Option, Some, None, is_none, Result, Ok, Err, if◌then◌else◌}
+use Rattle.std.specs.Prelude.{ℕ, ◌+◌, nat_lt, pos, Bool, true, false, List, Option, Some, None, is_none, Result, Ok, Err, if◌then◌else◌}
 use Rattle.source_tokens.specs.declared.tokens.Gathers.{Gathers}
+use Rattle.source_tokens.specs.declared.tokens.Gathers.TheVariants as gathers
 use Rattle.source_tokens.specs.declared.tokens.Token.{Token}
 use Rattle.source_reader.specs.declared.faults.Fault.{Fault}
 use Rattle.source_reader.specs.declared.faults.Wrong.TheVariants as wrong
@@ -9,13 +10,14 @@ use Rattle.source_reader.specs.declared.givers.Giver.TheVariants as giver
 use Rattle.source_reader.specs.declared.names.TaskGroup.{TaskGroup}
 use Rattle.source_reader.specs.declared.tasks.Reach.TheVariants as reach
 use Rattle.source_reader.specs.Faults.{◌>>=◌, fault_at}
-use Rattle.source_reader.specs.Givers.{giver_at}
+use Rattle.source_reader.specs.Givers.{giver_at, given_by}
 use Rattle.source_reader.specs.Halving.{taken}
 use Rattle.source_reader.specs.Names.{Scope, Functions, WithName, WithInline, Waited, Inner, Gathering, Asked, new_number}
 use Rattle.source_reader.specs.Returns.{return_at}
-use Rattle.source_reader.specs.Simple.{ReadStmt, given_at}
+use Rattle.source_reader.specs.Simple.{ReadStmt}
 use Rattle.source_reader.specs.Tasks.{leaving}
-use Rattle.source_reader.specs.Trees.{ThenTree, ContinueTree}
+use Rattle.source_reader.specs.Trees.{ExprTree, ValueTree, StmtTree, Constant, Variable, NumberTree, TruthTree, ThenTree, AssignTree, IfTree, ContinueTree}
+use Rattle.source_reader.specs.Values.{whole_value}
 
 -- the parallel loop whose body this is
 abbrev pub gathers_in : Scope → Option Gathers
@@ -50,13 +52,43 @@ abbrev pub behind_group : Option TaskGroup → Scope → Scope
 behind_group None names = names
 behind_group (Some g) names = Waited g names
 
--- Behind `give`: the value goes to one more variable and into the total, tasks that were not waited for are waited for, and the next number comes.
+-- whether nothing computes it
+abbrev pub is_there : ExprTree → Bool
+is_there (Constant z) = true
+is_there (Variable x) = true
+is_there e = false
+
+-- Whether the total takes a number as it stands. For a sum it is read once, for the others twice.
+abbrev pub takes : Gathers → ExprTree → Bool
+takes gathers.Sum e = true
+takes gathers.Least e = is_there e
+takes gathers.Greatest e = is_there e
+
+-- The total with a number more, which goes to one more variable if that is needed.
+abbrev pub number_taken : Gathers → Scope → ExprTree → List Token → Result StmtTree Fault
+number_taken g names e ts = if takes g e then Ok (taken g e) else (new_number names ts >>= λ n. Ok (ThenTree (AssignTree n e) (taken g (Variable n))))
+
+-- A condition is 1 or 0.
+abbrev pub value_taken : Gathers → Scope → ValueTree → List Token → Result StmtTree Fault
+value_taken g names (NumberTree e) ts = number_taken g names e ts
+value_taken g names (TruthTree t) ts = Ok (IfTree t (taken g (Constant (pos 1))) (taken g (Constant (pos 0))))
+
+abbrev pub taken_from : Option Giver → Gathers → Scope → List Token → ReadStmt
+taken_from (Some d) g names ts = do
+  n ← new_number names ts
+  c ← given_by d names n ts
+  Ok (ThenTree c.0 (taken g (Variable n)), c.1)
+taken_from None g names ts = do
+  v ← whole_value names ts
+  s ← value_taken g names v.0 ts
+  Ok (s, v.1)
+
+-- Behind `give`: the total with the value, tasks that were not waited for are waited for, and the next number comes.
 abbrev pub give_in : Gathers → Scope → List Token → ReadStmt
 give_in g names ts = do
   k ← loops_in names ts
-  n ← new_number names ts
-  v ← given_at names n ts
-  Ok (ThenTree v.0 (ThenTree (taken g n) (leaving reach.Function (behind_group (group_given (giver_at names ts)) names) (ContinueTree k))), v.1)
+  s ← taken_from (giver_at names ts) g names ts
+  Ok (ThenTree s.0 (leaving reach.Function (behind_group (group_given (giver_at names ts)) names) (ContinueTree k)), s.1)
 
 abbrev pub give_of : Option Gathers → Scope → (ts rest : List Token) → ReadStmt
 give_of None names ts rest = Err (fault_at ts wrong.NotGathered)

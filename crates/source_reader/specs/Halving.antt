@@ -1,12 +1,13 @@
 -- What the function of a parallel loop does: it halves its range among two tasks, or takes the numbers of a short one by itself.
-use Rattle.std.specs.Prelude.{ℕ, ℤ, pos, negsuc, Some, None}
+use Rattle.std.specs.Prelude.{ℕ, ◌==◌, ℤ, pos, negsuc, Bool, true, false, Some, None, if◌then◌else◌}
 use Rattle.source_language.specs.declared.syntax.Maker.TheVariants as maker
 use Rattle.source_language.specs.declared.syntax.Operator.TheVariants as op
+use Rattle.source_language.specs.Meaning.{is_nought}
 use Rattle.source_tokens.specs.declared.tokens.Gathers.{Gathers}
 use Rattle.source_tokens.specs.declared.tokens.Gathers.TheVariants as gathers
 use Rattle.source_reader.specs.declared.halving.TheConstants.{LOW, HIGH, TOTAL, OTHER, LOWER, UPPER}
 use Rattle.source_reader.specs.Counting.{before_end, is_further, turns}
-use Rattle.source_reader.specs.Trees.{ExprTree, TestTree, StmtTree, Constant, Variable, TwoTree, HoldsTree, BothTree, SkipTree, ThenTree, AssignTree, IfTree, ReturnTree, MakeTree, WaitTree}
+use Rattle.source_reader.specs.Trees.{ExprTree, TestTree, StmtTree, Constant, Variable, TwoTree, HoldsTree, BothTree, SkipTree, ThenTree, AssignTree, IfTree, ContinueTree, ReturnTree, MakeTree, WaitTree}
 
 -- what comes of no numbers
 abbrev pub neutral : Gathers → ℤ
@@ -14,15 +15,19 @@ neutral gathers.Sum = pos 0
 neutral gathers.Least = pos 9223372036854775807
 neutral gathers.Greatest = negsuc 9223372036854775807
 
--- one variable, if it is less than another
-abbrev pub taken_if : (less than from : ℕ) → StmtTree
-taken_if a b x = IfTree (HoldsTree (TwoTree op.Below (Variable a) (Variable b))) (AssignTree TOTAL (Variable x)) SkipTree
+abbrev pub is_0 : ExprTree → Bool
+is_0 (Constant z) = is_nought z
+is_0 e = false
 
--- the total with one value more, which is that of a variable
-abbrev pub taken : Gathers → (x : ℕ) → StmtTree
-taken gathers.Sum x = AssignTree TOTAL (TwoTree op.Plus (Variable TOTAL) (Variable x))
-taken gathers.Least x = taken_if x TOTAL x
-taken gathers.Greatest x = taken_if TOTAL x x
+-- one number as the total, if another is less than a third
+abbrev pub taken_if : (less than from : ExprTree) → StmtTree
+taken_if a b e = IfTree (HoldsTree (TwoTree op.Below a b)) (AssignTree TOTAL e) SkipTree
+
+-- The total with one number more. No 0 is added.
+abbrev pub taken : Gathers → ExprTree → StmtTree
+taken gathers.Sum e = if is_0 e then SkipTree else AssignTree TOTAL (TwoTree op.Plus (Variable TOTAL) e)
+taken gathers.Least e = taken_if e (Variable TOTAL) e
+taken gathers.Greatest e = taken_if (Variable TOTAL) e e
 
 -- whether there are more numbers than one task takes
 abbrev pub is_long : (most : ℤ) → TestTree
@@ -42,11 +47,22 @@ halved g p =
     (ThenTree (MakeTree (maker.Spawn UPPER) p (Variable TOTAL) (Variable HIGH))
     (ThenTree (WaitTree (Some TOTAL) None LOWER)
     (ThenTree (WaitTree (Some OTHER) None UPPER)
-    (ThenTree (taken g OTHER) (ReturnTree (Variable TOTAL)))))))
+    (ThenTree (taken g (Variable OTHER)) (ReturnTree (Variable TOTAL)))))))
+
+abbrev pub is_skip : StmtTree → Bool
+is_skip SkipTree = true
+is_skip s = false
+
+-- A body that ends by going on with the next number: its end does that by itself.
+abbrev pub to_its_end : StmtTree → StmtTree
+to_its_end (ThenTree a b) = if is_skip b then to_its_end a else ThenTree a (to_its_end b)
+to_its_end (IfTree c a b) = IfTree c (to_its_end a) (to_its_end b)
+to_its_end (ContinueTree k) = if k == 0 then SkipTree else ContinueTree k
+to_its_end s = s
 
 -- the body for each number of the range
 abbrev pub one_by_one : Gathers → (body : StmtTree) → StmtTree
-one_by_one g body = ThenTree (AssignTree TOTAL (Constant (neutral g))) (ThenTree (turns LOW HIGH (pos 1) body) (ReturnTree (Variable TOTAL)))
+one_by_one g body = ThenTree (AssignTree TOTAL (Constant (neutral g))) (ThenTree (turns LOW HIGH (pos 1) (to_its_end body)) (ReturnTree (Variable TOTAL)))
 
 -- the whole function
 abbrev pub gathered : Gathers → (function : ℕ) → (most : ℤ) → (body : StmtTree) → StmtTree

@@ -1,21 +1,23 @@
 // What leaves the body of a parallel loop, for one number of its range.
 ghost use Rattle.std.specs.Prelude.{◌≡◌, IfOk, Some};
 ghost use Rattle.source_reader.specs.Faults.{Gives};
-ghost use Rattle.source_reader.specs.Giving.{gathers_in, one_loop_more, loops_in, group_given, behind_group, give_in, give_at, return_in};
+ghost use Rattle.source_reader.specs.Giving.{gathers_in, one_loop_more, loops_in, group_given, behind_group, is_there, takes, number_taken, value_taken, taken_from, give_in, give_at, return_in};
+ghost use Rattle.source_reader.specs.Givers.{giver_at};
 ghost use Rattle.source_reader.specs.Names.{names_of};
 ghost use Rattle.source_reader.specs.Tasks.{leaving};
-ghost use Rattle.source_reader.specs.Trees.{stmt_tree_of, ContinueTree};
+ghost use Rattle.source_reader.specs.Trees.{tree_of, value_tree_of, stmt_tree_of, ContinueTree};
 ghost use Rattle.source_reader.specs.declared.tasks.Reach.TheVariants as reach;
 
 use crate::faults::{ReadError, Wrong, fault_at};
-use crate::givers::{Giver, giver_at};
+use crate::givers::{Giver, given_by, giver_at};
 use crate::halving::taken;
+use crate::joining::Value;
 use crate::names::{Names, TaskGroup, new_number};
 use crate::returns::return_at;
-use crate::simple::given_at;
 use crate::tasks::{Reach, leaving};
-use crate::trees::then;
-use source_language::Stmt;
+use crate::trees::{choice, then};
+use crate::values::whole_value;
+use source_language::{Expr, Stmt};
 use source_tokens::{Gathers, Token};
 use std::alloc::{AllocError, Global};
 
@@ -96,6 +98,92 @@ fn next_behind(
     }
 }
 
+/// Whether nothing computes it.
+fn is_there(e: &Expr) -> bool
+    ensures { result ≡ is_there (tree_of e.now) }
+{
+    match e {
+        Expr::Number(_) => true,
+        Expr::Variable(_) => true,
+        _ => false,
+    }
+}
+
+/// Whether the total takes a number as it stands.
+fn takes(gathers: Gathers, e: &Expr) -> bool
+    ensures { result ≡ takes gathers (tree_of e.now) }
+{
+    match gathers {
+        Gathers::Sum => true,
+        Gathers::Least => is_there(e),
+        Gathers::Greatest => is_there(e),
+    }
+}
+
+/// The total with a number more, which goes to one more variable if that is needed.
+fn number_taken(
+    alloc: Global,
+    gathers: Gathers,
+    names: &Names,
+    e: Expr,
+    tokens: &[Token],
+) -> Result<Stmt, ReadError>
+    ensures { Gives stmt_tree_of result
+        (number_taken gathers (names_of names.now) (tree_of e) tokens.now) }
+{
+    if takes(gathers, &e) {
+        return Ok(taken(alloc, gathers, e)?);
+    }
+    let number = new_number(names, tokens)?;
+    let taken = taken(alloc, gathers, Expr::Variable(number))?;
+    Ok(then(alloc, Stmt::Assign(number, e), taken)?)
+}
+
+/// The total with a value more. A condition is 1 or 0.
+fn value_taken(
+    alloc: Global,
+    gathers: Gathers,
+    names: &Names,
+    value: Value,
+    tokens: &[Token],
+) -> Result<Stmt, ReadError>
+    ensures { Gives stmt_tree_of result
+        (value_taken gathers (names_of names.now) (value_tree_of value) tokens.now) }
+{
+    match value {
+        Value::Number(e) => number_taken(alloc, gathers, names, e, tokens),
+        Value::Truth(t) => {
+            let holds = taken(alloc, gathers, Expr::Number(1))?;
+            let fails = taken(alloc, gathers, Expr::Number(0))?;
+            Ok(choice(alloc, t, holds, fails)?)
+        }
+    }
+}
+
+/// The total with what is given, behind `give`.
+fn taken_from<'a>(
+    alloc: Global,
+    gathers: Gathers,
+    names: &Names,
+    tokens: &'a [Token],
+) -> Result<(Stmt, &'a [Token]), ReadError>
+    ensures { Gives (λ x. (stmt_tree_of x.0, x.1.now)) result
+        (taken_from (giver_at (names_of names.now) tokens.entry.now) gathers (names_of names.now) tokens.entry.now) }
+{
+    match giver_at(names, tokens) {
+        Some(giver) => {
+            let number = new_number(names, tokens)?;
+            let (given, after) = given_by(alloc, giver, names, number, tokens)?;
+            let taken = taken(alloc, gathers, Expr::Variable(number))?;
+            Ok((then(alloc, given, taken)?, after))
+        }
+        None => {
+            let (value, after) = whole_value(alloc, names, tokens)?;
+            Ok((value_taken(alloc, gathers, names, value, tokens)?, after))
+        }
+    }
+}
+
 /// A value for this number, behind `give`.
 fn give_in<'a>(
     alloc: Global,
@@ -107,13 +195,10 @@ fn give_in<'a>(
         (give_in gathers (names_of names.now) tokens.entry.now) }
 {
     let loops = loops_in(names, tokens)?;
-    let number = new_number(names, tokens)?;
-    let (value, after) = given_at(alloc, names, number, tokens)?;
+    let (taken, after) = taken_from(alloc, gathers, names, tokens)?;
     let group = group_given(giver_at(names, tokens));
     let next = next_behind(alloc, group, names, loops)?;
-    let taken = taken(alloc, gathers, number)?;
-    let last = then(alloc, taken, next)?;
-    Ok((then(alloc, value, last)?, after))
+    Ok((then(alloc, taken, next)?, after))
 }
 
 /// `give v`, of which the word is the first of the tokens.

@@ -1,10 +1,11 @@
 // What the function of a parallel loop does: it halves its range among two tasks, or takes the numbers of a short one
 // by itself.
 ghost use Rattle.std.specs.Prelude.{◌≡◌, IfOk};
-ghost use Rattle.source_reader.specs.Halving.{neutral, taken_if, taken, is_long, middle, halved, one_by_one, gathered};
+ghost use Rattle.source_reader.specs.Halving.{neutral, is_0, taken_if, taken, is_long, middle, halved, is_skip, to_its_end, one_by_one, gathered};
 ghost use Rattle.source_reader.specs.Trees.{tree_of, test_tree_of, stmt_tree_of};
 
 use crate::folding::two;
+use crate::inlines::copied;
 use crate::loops::{before_end, is_further, turns};
 use crate::trees::{choice, then};
 use job_language::Group;
@@ -44,32 +45,49 @@ fn neutral(gathers: Gathers) -> i64
     }
 }
 
-/// The variable `from` becomes the total, if one variable is less than another.
-fn taken_if(alloc: Global, less: u8, than: u8, from: u8) -> Result<Stmt, AllocError>
-    ensures { IfOk result (λ s. stmt_tree_of s ≡ taken_if less than from) }
+fn is_0(e: &Expr) -> bool
+    ensures { result ≡ is_0 (tree_of e.now) }
 {
-    let is_less = two(
-        alloc,
-        Operator::Below,
-        Expr::Variable(less),
-        Expr::Variable(than),
-    )?;
-    let taken = Stmt::Assign(TOTAL, Expr::Variable(from));
-    choice(alloc, Test::Holds(is_less), taken, Stmt::Skip)
+    match e {
+        Expr::Number(n) => *n == 0,
+        _ => false,
+    }
 }
 
-/// The total with one value more, which is that of a variable.
-pub(crate) fn taken(alloc: Global, gathers: Gathers, number: u8) -> Result<Stmt, AllocError>
-    ensures { IfOk result (λ s. stmt_tree_of s ≡ taken gathers number) }
+/// One number as the total, if another is less than a third.
+fn taken_if(alloc: Global, less: Expr, than: Expr, from: Expr) -> Result<Stmt, AllocError>
+    ensures { IfOk result
+        (λ s. stmt_tree_of s ≡ taken_if (tree_of less) (tree_of than) (tree_of from)) }
 {
+    let is_less = two(alloc, Operator::Below, less, than)?;
+    choice(
+        alloc,
+        Test::Holds(is_less),
+        Stmt::Assign(TOTAL, from),
+        Stmt::Skip,
+    )
+}
+
+/// The total with one number more.
+pub(crate) fn taken(alloc: Global, gathers: Gathers, e: Expr) -> Result<Stmt, AllocError>
+    ensures { IfOk result (λ s. stmt_tree_of s ≡ taken gathers (tree_of e)) }
+{
+    let total = Expr::Variable(TOTAL);
     match gathers {
         Gathers::Sum => {
-            let total = Expr::Variable(TOTAL);
-            let sum = two(alloc, Operator::Plus, total, Expr::Variable(number))?;
-            Ok(Stmt::Assign(TOTAL, sum))
+            if is_0(&e) {
+                return Ok(Stmt::Skip);
+            }
+            Ok(Stmt::Assign(TOTAL, two(alloc, Operator::Plus, total, e)?))
         }
-        Gathers::Least => taken_if(alloc, number, TOTAL, number),
-        Gathers::Greatest => taken_if(alloc, TOTAL, number, number),
+        Gathers::Least => {
+            let from = copied(alloc, &e)?;
+            taken_if(alloc, e, total, from)
+        }
+        Gathers::Greatest => {
+            let from = copied(alloc, &e)?;
+            taken_if(alloc, total, e, from)
+        }
     }
 }
 
@@ -119,7 +137,7 @@ fn halved(alloc: Global, gathers: Gathers, function: u8) -> Result<Stmt, AllocEr
         middle_again,
         Expr::Variable(HIGH),
     );
-    let both = taken(alloc, gathers, OTHER)?;
+    let both = taken(alloc, gathers, Expr::Variable(OTHER))?;
     let last = then(alloc, both, Stmt::Return(Expr::Variable(TOTAL)))?;
     let last = then(alloc, Stmt::Wait(Some(OTHER), None, upper()), last)?;
     let last = then(alloc, Stmt::Wait(Some(TOTAL), None, lower()), last)?;
@@ -128,12 +146,50 @@ fn halved(alloc: Global, gathers: Gathers, function: u8) -> Result<Stmt, AllocEr
     then(alloc, Stmt::Assign(TOTAL, middle(alloc)?), last)
 }
 
+fn is_skip(s: &Stmt) -> bool
+    ensures { result ≡ is_skip (stmt_tree_of s.now) }
+{
+    match s {
+        Stmt::Skip => true,
+        _ => false,
+    }
+}
+
+/// A body that ends by going on with the next number: its end does that by itself.
+fn to_its_end(alloc: Global, body: Stmt) -> Result<Stmt, AllocError>
+    ensures { IfOk result (λ s. stmt_tree_of s ≡ to_its_end (stmt_tree_of body)) }
+{
+    match body {
+        Stmt::Then(a, b) => {
+            let first = Box::into_inner(a);
+            let last = Box::into_inner(b);
+            if is_skip(&last) {
+                return to_its_end(alloc, first);
+            }
+            then(alloc, first, to_its_end(alloc, last)?)
+        }
+        Stmt::If(c, a, b) => {
+            let first = to_its_end(alloc, Box::into_inner(a))?;
+            let second = to_its_end(alloc, Box::into_inner(b))?;
+            choice(alloc, c, first, second)
+        }
+        Stmt::Continue(loops) => {
+            if loops == 0 {
+                Ok(Stmt::Skip)
+            } else {
+                Ok(Stmt::Continue(loops))
+            }
+        }
+        other => Ok(other),
+    }
+}
+
 /// The body for each number of the range.
 fn one_by_one(alloc: Global, gathers: Gathers, body: Stmt) -> Result<Stmt, AllocError>
     ensures { IfOk result (λ s. stmt_tree_of s ≡ one_by_one gathers (stmt_tree_of body)) }
 {
     let nothing = Stmt::Assign(TOTAL, Expr::Number(neutral(gathers)));
-    let turns = turns(alloc, LOW, HIGH, 1, body)?;
+    let turns = turns(alloc, LOW, HIGH, 1, to_its_end(alloc, body)?)?;
     let last = then(alloc, turns, Stmt::Return(Expr::Variable(TOTAL)))?;
     then(alloc, nothing, last)
 }

@@ -24,7 +24,7 @@ pub(crate) struct Inline {
     pub(crate) value: Value,
 }
 
-fn copied(alloc: Global, e: &Expr) -> Result<Expr, AllocError>
+pub(crate) fn copied(alloc: Global, e: &Expr) -> Result<Expr, AllocError>
     ensures { IfOk result (λ r. tree_of r ≡ tree_of e.now) }
 {
     match e {
