@@ -28,6 +28,9 @@ GROUPS = (
     ("fn main(a, b) { group g; group h; group k; spawn h: part(4); let x = wait h; group l; spawn l: part(x); let y = wait l; return x * 100 + y }\n" + PART, (2, 0)),
     ("fn main(a, b) { group g; let x = a; spawn g: part(x); let y = wait g; let z = y + x; return z * 10 }\n" + PART, (2, 0)),
     ("fn main() { return call place(0, 0) }\n" + WAYS, (0, 0)),
+    ("fn main(a, b) { group g; group h; group k; group l; for i in 0..a { spawn l: part(i + 1); spawn k: part(i + 2) }; spawn g: part(a); "
+     "let s = wait l; s = s * 10 + isolate part(3); s += wait k * 100; spawn h: part(s); return s + wait h + wait g }\n" + PART, (3, 5)),
+    ("fn main(a, b) { group g; group h; group k; group l; spawn l: part(a); if a == 3 { let s = isolate part(6); return s * b }; return 1 }\n" + PART, (3, 5)),
     ("fn main(a, b) { group g; spawn g: part(a); cancel g; wait g; return b }\n" + PART, (3, 5)),
     ("fn main(a, b) { let x = spawn part(a); group g; spawn g: part(a); if b { cancel x; cancel g; return b }; wait g; return wait x }\n" + PART, (3, 5)),
     ("fn main(a, b) { let x = spawn part(a); group g; spawn g: part(a); if b { cancel x; cancel g; return b }; let y = wait g; return wait x + y }\n" + PART, (3, 0)),

@@ -13,6 +13,12 @@ WAITING = (
     ("fn main(a, b) { let x = spawn less(a, b); let y = spawn less(wait x, 1); let z = call less(wait y, x); return z }\n" + LESS, (7, 3)),
     ("fn main(a, b) { let x = spawn less(a, b); let y = spawn less(b, a); let z = spawn less(a, 1); wait y; let w = spawn less(9, b); "
      "sync; return ((x * 10 + y) * 10 + z) * 10 + w }\n" + LESS, (7, 3)),
+    ("fn main(a, b) { let w = spawn less(a, 1); let x = spawn less(a, b); let y = spawn less(b, a); let z = spawn less(9, b); sync; "
+     "return ((w * 10 + x) * 10 + y) * 10 + z }\n" + LESS, (7, 3)),
+    ("fn main(a, b) { let w = spawn less(a, 1); let x = spawn less(a, b); let y = spawn less(b, a); let z = spawn less(9, b); a = wait z; "
+     "b = call less(a, 1) * 10 + wait w; let v = spawn less(b, a); return wait v * 10 + wait y }\n" + LESS, (7, 3)),
+    ("fn main(a, b) { for i in 0..6 { let w = spawn less(i, 1); let x = spawn less(i, b); let y = spawn less(b, i); let z = spawn less(9, i); "
+     "if i == 2 { continue }; if i == a { return b * 10 }; b += wait w - wait z + wait x; wait y }; return b }\n" + LESS, (4, 1)),
     ("fn main(a, b) { let x = spawn less(a, b); let y = call less(b, a); let z = spawn less(y, wait x); sync; sync; return z * x }\n" + LESS, (7, 3)),
     ("fn main(a, b) { let x = spawn less(a, b); return call less(a, 1) }\n" + LESS, (7, 3)),
     ("fn main(a, b) { let x = spawn less(a, b); return a == 7 }\n" + LESS, (7, 3)),

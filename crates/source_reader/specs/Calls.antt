@@ -1,5 +1,5 @@
 -- Functions that are run: called, spawned, as regions, or posted.
-use Rattle.std.specs.Prelude.{ℕ, pos, ◌==◌, Bool, true, false, List, [], ◌∷◌, drop, Option, Some, None, Result, Ok, Err, if◌then◌else◌}
+use Rattle.std.specs.Prelude.{ℕ, pos, ◌==◌, Bool, true, false, List, [], ◌∷◌, drop, Option, Some, None, is_none, Result, Ok, Err, if◌then◌else◌}
 use Rattle.source_language.specs.declared.syntax.Maker.TheVariants as maker
 use Rattle.source_tokens.specs.declared.tokens.Kind.{Kind}
 use Rattle.source_tokens.specs.declared.tokens.Kind.TheVariants as kind
@@ -18,7 +18,9 @@ use Rattle.source_reader.specs.Faults.{◌>>=◌, fault_at}
 use Rattle.source_reader.specs.Headers.{title_at, callee_in}
 use Rattle.source_reader.specs.Joining.{number_in}
 use Rattle.source_reader.specs.Names.{Scope, functions_in}
-use Rattle.source_reader.specs.Tasks.{group_number, free_group}
+use Rattle.source_reader.specs.declared.names.TaskGroup.TheVariants as task_group
+use Rattle.source_reader.specs.declared.tasks.Reach.TheVariants as reach
+use Rattle.source_reader.specs.Tasks.{group_number, free_group, task_in}
 use Rattle.source_reader.specs.Trees.{tree_of, ExprTree, StmtTree, Constant, ThenTree, MakeTree, WaitTree}
 use Rattle.source_reader.specs.Values.{whole_value}
 use Rattle.source_reader.specs.Marks.{unexpected, after_open, is_close, wrong_count, after_last, before_next}
@@ -80,20 +82,26 @@ some_arguments names n called ts = if is_close ts then wrong_count called else (
 abbrev pub arguments_at : Scope → (count : ℕ) → (called ts : List Token) → ReadArguments
 arguments_at names n called ts = if n == 0 then no_argument called ts else some_arguments names n called ts
 
--- What is made of the function of that number. The task of a call is made in a group that nothing else uses, and waited for; its value goes to the variable, if there is one.
+-- What is made of the function of that number. The task of a call is made in a group that no other task has, and waited for; its value goes to the variable, if there is one.
 abbrev pub made : Run → (number : ℕ) → ArgumentTrees → StmtTree
 made (run.Call d) f a = ThenTree (MakeTree (maker.Spawn CALLS) f a.first a.second) (WaitTree d None CALLS)
 made (run.Spawn g) f a = MakeTree (maker.Spawn (group_number g)) f a.first a.second
 made (run.Isolate d) f a = MakeTree (maker.Isolate d) f a.first a.second
 made run.Post f a = MakeTree maker.Post f a.first a.second
 
+-- A call has a group as long as no task or group of the function has the fourth one.
+abbrev pub if_group_left : Run → Scope → List Token → Result Run Fault
+if_group_left (run.Call d) names ts = if is_none (task_in reach.Function task_group.Fourth names) then Ok (run.Call d) else Err (fault_at ts wrong.NoGroup)
+if_group_left r names ts = Ok r
+
 -- behind `call`, `spawn`, `isolate` or `post`
 abbrev pub run_at : Scope → Run → List Token → Result (StmtTree × List Token) Fault
 run_at names r ts = do
   f ← callee_at names ts
+  how ← if_group_left r names ts
   inside ← after_open (drop 1 ts)
   a ← arguments_at names f.parameters ts inside
-  Ok (made r f.number a.0, a.1)
+  Ok (made how f.number a.0, a.1)
 
 -- Behind `spawn`: a task in the first group that is free. Its name is the first of the tokens `name`.
 abbrev pub spawn_at : Scope → (name ts : List Token) → Result (StmtTree × List Token) Fault

@@ -13,7 +13,7 @@ use Rattle.source_reader.specs.Faults.{◌>>=◌, fault_at}
 use Rattle.source_reader.specs.Givers.{giver_at, given_by}
 use Rattle.source_reader.specs.Halving.{taken}
 use Rattle.source_reader.specs.Names.{Scope, Functions, WithName, WithInline, Waited, Inner, Gathering, Asked, new_number}
-use Rattle.source_reader.specs.Returns.{return_at}
+use Rattle.source_reader.specs.Returns.{is_there, return_at}
 use Rattle.source_reader.specs.Simple.{ReadStmt}
 use Rattle.source_reader.specs.Tasks.{leaving}
 use Rattle.source_reader.specs.Trees.{ExprTree, ValueTree, StmtTree, Constant, Variable, NumberTree, TruthTree, ThenTree, AssignTree, IfTree, ContinueTree}
@@ -51,12 +51,6 @@ group_given o = None
 abbrev pub behind_group : Option TaskGroup → Scope → Scope
 behind_group None names = names
 behind_group (Some g) names = Waited g names
-
--- whether nothing computes it
-abbrev pub is_there : ExprTree → Bool
-is_there (Constant z) = true
-is_there (Variable x) = true
-is_there e = false
 
 -- Whether the total takes a number as it stands. For a sum it is read once, for the others twice.
 abbrev pub takes : Gathers → ExprTree → Bool

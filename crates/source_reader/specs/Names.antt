@@ -42,6 +42,7 @@ abbrev pub is_same_group : TaskGroup → TaskGroup → Bool
 is_same_group task_group.First task_group.First = true
 is_same_group task_group.Second task_group.Second = true
 is_same_group task_group.Third task_group.Third = true
+is_same_group task_group.Fourth task_group.Fourth = true
 is_same_group g h = false
 
 -- what a name means behind a wait for its task; a group is waited for once

@@ -8,7 +8,7 @@ use Rattle.source_reader.specs.declared.faults.Fault.{Fault}
 use Rattle.source_reader.specs.declared.faults.Wrong.TheVariants as wrong
 use Rattle.source_reader.specs.declared.headers.Title.TheVariants as title
 use Rattle.source_reader.specs.declared.ranges.TheConstants.{GRAIN}
-use Rattle.source_reader.specs.Calls.{argument_at, callee_titled, made}
+use Rattle.source_reader.specs.Calls.{argument_at, callee_titled, if_group_left, made}
 use Rattle.source_reader.specs.Constants.{constant_in}
 use Rattle.source_reader.specs.Faults.{◌>>=◌, fault_at}
 use Rattle.source_reader.specs.Lines.{after_begin, after_in, after_range, free_name, is_end}
@@ -59,6 +59,7 @@ ends_there None = unexpected []
 abbrev pub parallel_at : Scope → (x : ℕ) → List Token → Result (StmtTree × List Token) Fault
 parallel_at names x ts = do
   i ← free_name names ts
+  call ← if_group_left (run.Call (Some x)) names ts
   from ← after_in (drop 1 ts)
   low ← argument_at names from
   to ← after_range low.1
@@ -67,4 +68,4 @@ parallel_at names x ts = do
   inside ← after_begin grain.1
   rest ← ends_there (after_block 0 inside)
   f ← callee_titled (title.Gathering (length ts)) names ts
-  Ok (made (run.Call (Some x)) f.number (record { first = low.0; second = high.0 }), rest)
+  Ok (made call f.number (record { first = low.0; second = high.0 }), rest)

@@ -1,10 +1,10 @@
 -- Statements that return.
-use Rattle.std.specs.Prelude.{ℕ, pos, ◌||◌, List, [], ◌∷◌, Option, Some, None, is_none, Result, Ok, if◌then◌else◌}
+use Rattle.std.specs.Prelude.{ℕ, pos, Bool, true, false, ◌||◌, List, [], ◌∷◌, Option, Some, None, is_none, Result, Ok, if◌then◌else◌}
 use Rattle.source_tokens.specs.declared.tokens.Token.{Token}
 use Rattle.source_reader.specs.declared.faults.Fault.{Fault}
 use Rattle.source_reader.specs.declared.tasks.Reach.TheVariants as reach
 use Rattle.source_reader.specs.Faults.{◌>>=◌}
-use Rattle.source_reader.specs.Trees.{ValueTree, StmtTree, Constant, Variable, ThenTree, ReturnTree}
+use Rattle.source_reader.specs.Trees.{ExprTree, ValueTree, StmtTree, Constant, Variable, NumberTree, TruthTree, ThenTree, ReturnTree}
 use Rattle.source_reader.specs.Names.{Scope, Waited, new_number}
 use Rattle.source_reader.specs.Tasks.{pending, leaving}
 use Rattle.source_reader.specs.Values.{whole_value}
@@ -14,6 +14,17 @@ use Rattle.source_reader.specs.Givers.{giver_at, given_by}
 use Rattle.source_reader.specs.Lines.{assigned, returned, is_line_end, is_end}
 use Rattle.source_reader.specs.Simple.{ReadStmt}
 use Rattle.source_reader.specs.Marks.{unexpected}
+
+-- whether nothing computes it
+abbrev pub is_there : ExprTree → Bool
+is_there (Constant z) = true
+is_there (Variable x) = true
+is_there e = false
+
+-- whether a value is the same behind waits, with nothing to keep it
+abbrev pub stays : ValueTree → Bool
+stays (NumberTree e) = is_there e
+stays (TruthTree t) = false
 
 -- A variable is returned: its value is there before the waits for tasks.
 abbrev pub variable_returned : Scope → ℕ → StmtTree
@@ -26,7 +37,10 @@ kept_returned names v ts = do
   Ok (ThenTree (assigned n v) (variable_returned names n))
 
 abbrev pub returned_from : Scope → ValueTree → List Token → Result StmtTree Fault
-returned_from names v ts = if is_none (pending reach.Function names) then Ok (returned v) else kept_returned names v ts
+returned_from names v ts =
+    if is_none (pending reach.Function names) then Ok (returned v)
+    else if stays v then Ok (leaving reach.Function names (returned v))
+    else kept_returned names v ts
 
 abbrev pub value_returned : Scope → List Token → ReadStmt
 value_returned names ts = do

@@ -3,6 +3,7 @@ use Rattle.std.specs.Prelude.{ℕ, Bool, true, false, ◌||◌, List, Option, So
 use Rattle.source_tokens.specs.declared.tokens.Token.{Token}
 use Rattle.source_reader.specs.declared.faults.Fault.{Fault}
 use Rattle.source_reader.specs.declared.faults.Wrong.TheVariants as wrong
+use Rattle.source_reader.specs.declared.calls.TheConstants.{CALLS}
 use Rattle.source_reader.specs.declared.names.Meaning.{Meaning}
 use Rattle.source_reader.specs.declared.names.Meaning.TheVariants as meaning
 use Rattle.source_reader.specs.declared.names.Task.{Task}
@@ -14,11 +15,12 @@ use Rattle.source_reader.specs.Faults.{fault_at}
 use Rattle.source_reader.specs.Names.{Scope, Functions, WithName, WithInline, Waited, Inner, Gathering, Asked, is_same_group}
 use Rattle.source_reader.specs.Trees.{StmtTree, ThenTree, WaitTree, SkipTree}
 
--- the number of a group; 0 is that of calls
+-- the number of a group; the last one is that of calls, too
 abbrev pub group_number : TaskGroup → ℕ
 group_number task_group.First = 1
 group_number task_group.Second = 2
 group_number task_group.Third = 3
+group_number task_group.Fourth = CALLS
 
 -- whether a look at tasks ends at the beginning of a block
 abbrev pub ends_at : Reach → (is_loop : Bool) → Bool
@@ -46,7 +48,10 @@ task_in r g (Asked left b v others) = task_in r g others
 
 -- the first of those, by their groups
 abbrev pub pending : Reach → Scope → Option Task
-pending r names = first_task (task_in r task_group.First names) (first_task (task_in r task_group.Second names) (task_in r task_group.Third names))
+pending r names =
+    first_task (task_in r task_group.First names)
+    (first_task (task_in r task_group.Second names)
+    (first_task (task_in r task_group.Third names) (task_in r task_group.Fourth names)))
 
 abbrev pub if_task : Option Task → Option Task
 if_task (Some t) = if t.is_group then None else Some t
@@ -54,7 +59,10 @@ if_task None = None
 
 -- the first of those that is no group
 abbrev pub pending_task : Reach → Scope → Option Task
-pending_task r names = first_task (if_task (task_in r task_group.First names)) (first_task (if_task (task_in r task_group.Second names)) (if_task (task_in r task_group.Third names)))
+pending_task r names =
+    first_task (if_task (task_in r task_group.First names))
+    (first_task (if_task (task_in r task_group.Second names))
+    (first_task (if_task (task_in r task_group.Third names)) (if_task (task_in r task_group.Fourth names))))
 
 -- a group that no task has which was not waited for
 abbrev pub free_group : Scope → List Token → Result TaskGroup Fault
@@ -62,6 +70,7 @@ free_group names ts =
     if is_none (task_in reach.Function task_group.First names) then Ok task_group.First
     else if is_none (task_in reach.Function task_group.Second names) then Ok task_group.Second
     else if is_none (task_in reach.Function task_group.Third names) then Ok task_group.Third
+    else if is_none (task_in reach.Function task_group.Fourth names) then Ok task_group.Fourth
     else Err (fault_at ts wrong.NoGroup)
 
 -- whether the innermost block is that of the function
@@ -85,7 +94,10 @@ dropped (Some t) s = ThenTree (WaitTree None None (group_number t.group)) s
 
 -- a statement that leaves so much, behind waits for the tasks there
 abbrev pub leaving : Reach → Scope → StmtTree → StmtTree
-leaving r names s = dropped (task_in r task_group.First names) (dropped (task_in r task_group.Second names) (dropped (task_in r task_group.Third names) s))
+leaving r names s =
+    dropped (task_in r task_group.First names)
+    (dropped (task_in r task_group.Second names)
+    (dropped (task_in r task_group.Third names) (dropped (task_in r task_group.Fourth names) s)))
 
 -- The end of a block, at the first of the tokens: none of its tasks is left, except in the function's own.
 abbrev pub block_end : (left : Bool) → Scope → List Token → Result StmtTree Fault

@@ -1,6 +1,6 @@
 // Functions that are run: called, spawned, as regions, or posted.
 ghost use Rattle.std.specs.Prelude.{◌≡◌, IfOk};
-ghost use Rattle.source_reader.specs.Calls.{found, callee_titled, callee_at, argument_at, view_arguments, no_argument, one_argument, two_arguments, arguments_at, made, run_at, spawn_at, is_spawn};
+ghost use Rattle.source_reader.specs.Calls.{found, callee_titled, callee_at, argument_at, view_arguments, no_argument, one_argument, two_arguments, arguments_at, made, if_group_left, run_at, spawn_at, is_spawn};
 ghost use Rattle.source_reader.specs.Faults.{Gives};
 ghost use Rattle.source_reader.specs.Headers.{callee_in};
 ghost use Rattle.source_reader.specs.Names.{names_of, functions_in};
@@ -12,7 +12,7 @@ use crate::headers::{Callee, Title, callee_in, title_at};
 use crate::joining::number_in;
 use crate::marks::{after_first, after_last, after_open, before_next, is_close};
 use crate::names::{Names, TaskGroup};
-use crate::tasks::{free_group, group_of};
+use crate::tasks::{Reach, free_group, group_of, task_in};
 use crate::trees::then;
 use crate::values::whole_value;
 use job_language::Group;
@@ -20,7 +20,7 @@ use source_language::{Expr, Maker, Stmt};
 use source_tokens::{Kind, Token};
 use std::alloc::{AllocError, Global};
 
-/// The group of tasks that are called, which is free wherever a statement begins.
+/// The group of tasks that are called. A function that has named tasks in it calls nothing meanwhile.
 pub const CALLS: u64 = 0;
 
 /// The function of that name.
@@ -205,6 +205,22 @@ pub(crate) fn made(
     }
 }
 
+/// A call has a group as long as no task or group of the function has the fourth one.
+pub(crate) fn if_group_left(run: Run, names: &Names, tokens: &[Token]) -> Result<Run, ReadError>
+    ensures { Gives (λ r. r) result (if_group_left run (names_of names.now) tokens.now) }
+{
+    match run {
+        Run::Call(_) => {
+            if task_in(Reach::Function, TaskGroup::Fourth, names).is_none() {
+                Ok(run)
+            } else {
+                Err(fault_at(tokens, Wrong::NoGroup))
+            }
+        }
+        _ => Ok(run),
+    }
+}
+
 /// `f(v, w)`, behind `call`, `spawn`, `isolate` or `post`.
 pub(crate) fn run_at<'a>(
     alloc: Global,
@@ -216,6 +232,7 @@ pub(crate) fn run_at<'a>(
         (run_at (names_of names.now) run tokens.entry.now) }
 {
     let callee = callee_at(names, tokens)?;
+    let run = if_group_left(run, names, tokens)?;
     let inside = after_open(after_first(tokens))?;
     let (arguments, rest) = arguments_at(alloc, names, callee.parameters, tokens, inside)?;
     Ok((made(alloc, run, callee.number, arguments)?, rest))

@@ -1,7 +1,7 @@
 // What leaves the body of a parallel loop, for one number of its range.
 ghost use Rattle.std.specs.Prelude.{◌≡◌, IfOk, Some};
 ghost use Rattle.source_reader.specs.Faults.{Gives};
-ghost use Rattle.source_reader.specs.Giving.{gathers_in, one_loop_more, loops_in, group_given, behind_group, is_there, takes, number_taken, value_taken, taken_from, give_in, give_at, return_in};
+ghost use Rattle.source_reader.specs.Giving.{gathers_in, one_loop_more, loops_in, group_given, behind_group, takes, number_taken, value_taken, taken_from, give_in, give_at, return_in};
 ghost use Rattle.source_reader.specs.Givers.{giver_at};
 ghost use Rattle.source_reader.specs.Names.{names_of};
 ghost use Rattle.source_reader.specs.Tasks.{leaving};
@@ -13,7 +13,7 @@ use crate::givers::{Giver, given_by, giver_at};
 use crate::halving::taken;
 use crate::joining::Value;
 use crate::names::{Names, TaskGroup, new_number};
-use crate::returns::return_at;
+use crate::returns::{is_there, return_at};
 use crate::tasks::{Reach, leaving};
 use crate::trees::{choice, then};
 use crate::values::whole_value;
@@ -95,17 +95,6 @@ fn next_behind(
             leaving(alloc, Reach::Function, &behind, next)
         }
         None => leaving(alloc, Reach::Function, names, next),
-    }
-}
-
-/// Whether nothing computes it.
-fn is_there(e: &Expr) -> bool
-    ensures { result ≡ is_there (tree_of e.now) }
-{
-    match e {
-        Expr::Number(_) => true,
-        Expr::Variable(_) => true,
-        _ => false,
     }
 }
 

@@ -12,12 +12,13 @@ use crate::inlines::Inline;
 use job_language::Key;
 use source_tokens::{Gathers, Token};
 
-/// A group of tasks that have names. None of them is that of calls.
+/// A group of tasks that have names. The fourth is that of calls, too.
 #[derive(Clone, Copy)]
 pub(crate) enum TaskGroup {
     First,
     Second,
     Third,
+    Fourth,
 }
 
 /// A task that has a name: the variable that its value goes to, and its group, which no other task has before this one
@@ -76,6 +77,7 @@ pub(crate) fn is_same_group(a: TaskGroup, b: TaskGroup) -> bool
         (TaskGroup::First, TaskGroup::First) => true,
         (TaskGroup::Second, TaskGroup::Second) => true,
         (TaskGroup::Third, TaskGroup::Third) => true,
+        (TaskGroup::Fourth, TaskGroup::Fourth) => true,
         _ => false,
     }
 }

@@ -5,7 +5,7 @@ ghost use Rattle.source_reader.specs.Names.{names_of};
 ghost use Rattle.source_reader.specs.Ranges.{is_grain_of, is_grain, from_one, grain_in, grain_at, is_begin, after_block, ends_there, parallel_at};
 ghost use Rattle.source_reader.specs.Trees.{stmt_tree_of};
 
-use crate::calls::{Arguments, Run, argument_at, callee_titled, made};
+use crate::calls::{Arguments, Run, argument_at, callee_titled, if_group_left, made};
 use crate::constants::constant_in;
 use crate::faults::{ReadError, Wrong, fault_at};
 use crate::headers::Title;
@@ -130,6 +130,7 @@ pub(crate) fn parallel_at<'a>(
         (parallel_at (names_of names.now) number tokens.entry.now) }
 {
     let _index = free_name(names, tokens)?;
+    let call = if_group_left(Run::Call(Some(number)), names, tokens)?;
     let from = after_in(after_first(tokens))?;
     let (first, rest) = argument_at(alloc, names, from)?;
     let to = after_range(rest)?;
@@ -139,6 +140,5 @@ pub(crate) fn parallel_at<'a>(
     let after = behind_block(inside)?;
     let function = callee_titled(Title::Gathering(tokens.len()), names, tokens)?;
     let ends = Arguments { first, second };
-    let call = made(alloc, Run::Call(Some(number)), function.number, ends)?;
-    Ok((call, after))
+    Ok((made(alloc, call, function.number, ends)?, after))
 }

@@ -1,9 +1,9 @@
 // Statements that return.
 ghost use Rattle.std.specs.Prelude.{◌≡◌, IfOk};
 ghost use Rattle.source_reader.specs.Faults.{Gives};
-ghost use Rattle.source_reader.specs.Trees.{stmt_tree_of, value_tree_of};
+ghost use Rattle.source_reader.specs.Trees.{tree_of, stmt_tree_of, value_tree_of};
 ghost use Rattle.source_reader.specs.Names.{names_of};
-ghost use Rattle.source_reader.specs.Returns.{variable_returned, kept_returned, returned_from, behind, returned_by, something_returned, return_at};
+ghost use Rattle.source_reader.specs.Returns.{is_there, stays, variable_returned, kept_returned, returned_from, behind, returned_by, something_returned, return_at};
 
 use crate::faults::{ReadError, Wrong, fault_at};
 use crate::givers::{Giver, given_by, giver_at};
@@ -78,7 +78,28 @@ fn returned_behind(
     }
 }
 
-/// A value is returned. If a task was not waited for, one more variable keeps it until then.
+/// Whether nothing computes it.
+pub(crate) fn is_there(e: &Expr) -> bool
+    ensures { result ≡ is_there (tree_of e.now) }
+{
+    match e {
+        Expr::Number(_) => true,
+        Expr::Variable(_) => true,
+        _ => false,
+    }
+}
+
+/// Whether a value is the same behind waits, with nothing to keep it.
+fn stays(value: &Value) -> bool
+    ensures { result ≡ stays (value_tree_of value.now) }
+{
+    match value {
+        Value::Number(e) => is_there(e),
+        Value::Truth(_) => false,
+    }
+}
+
+/// A value is returned. If a task was not waited for, one more variable keeps it until then, where that is needed.
 fn returned_from(
     alloc: Global,
     names: &Names,
@@ -90,6 +111,10 @@ fn returned_from(
 {
     if pending(Reach::Function, names).is_none() {
         return Ok(returned(alloc, value)?);
+    }
+    if stays(&value) {
+        let last = returned(alloc, value)?;
+        return Ok(leaving(alloc, Reach::Function, names, last)?);
     }
     kept_returned(alloc, names, value, tokens)
 }

@@ -5,6 +5,7 @@ ghost use Rattle.source_reader.specs.Names.{names_of};
 ghost use Rattle.source_reader.specs.Tasks.{group_number, ends_at, of_group, task_in, pending, if_task, pending_task, free_group, is_outermost, waited, dropped, leaving, block_end};
 ghost use Rattle.source_reader.specs.Trees.{stmt_tree_of};
 
+use crate::calls::CALLS;
 use crate::faults::{ReadError, Wrong, fault_at};
 use crate::names::{Meaning, Names, Task, TaskGroup, is_same_group};
 use crate::trees::then;
@@ -30,6 +31,7 @@ pub(crate) fn group_of(group: TaskGroup) -> Group
         TaskGroup::First => Group::new(1).unwrap(),
         TaskGroup::Second => Group::new(2).unwrap(),
         TaskGroup::Third => Group::new(3).unwrap(),
+        TaskGroup::Fourth => Group::new(CALLS).unwrap(),
     }
 }
 
@@ -60,7 +62,7 @@ fn of_group(group: TaskGroup, meaning: Meaning) -> Option<Task>
 }
 
 /// The task of that group which was not waited for.
-fn task_in(reach: Reach, group: TaskGroup, names: &Names) -> Option<Task>
+pub(crate) fn task_in(reach: Reach, group: TaskGroup, names: &Names) -> Option<Task>
     ensures { result ≡ task_in reach group (names_of names.now) }
 {
     match names {
@@ -97,7 +99,10 @@ pub(crate) fn pending(reach: Reach, names: &Names) -> Option<Task>
         Some(task) => Some(task),
         None => match task_in(reach, TaskGroup::Second, names) {
             Some(task) => Some(task),
-            None => task_in(reach, TaskGroup::Third, names),
+            None => match task_in(reach, TaskGroup::Third, names) {
+                Some(task) => Some(task),
+                None => task_in(reach, TaskGroup::Fourth, names),
+            },
         },
     }
 }
@@ -120,7 +125,10 @@ pub(crate) fn pending_task(reach: Reach, names: &Names) -> Option<Task>
         Some(task) => Some(task),
         None => match if_task(task_in(reach, TaskGroup::Second, names)) {
             Some(task) => Some(task),
-            None => if_task(task_in(reach, TaskGroup::Third, names)),
+            None => match if_task(task_in(reach, TaskGroup::Third, names)) {
+                Some(task) => Some(task),
+                None => if_task(task_in(reach, TaskGroup::Fourth, names)),
+            },
         },
     }
 }
@@ -135,6 +143,8 @@ pub(crate) fn free_group(names: &Names, tokens: &[Token]) -> Result<TaskGroup, R
         Ok(TaskGroup::Second)
     } else if task_in(Reach::Function, TaskGroup::Third, names).is_none() {
         Ok(TaskGroup::Third)
+    } else if task_in(Reach::Function, TaskGroup::Fourth, names).is_none() {
+        Ok(TaskGroup::Fourth)
     } else {
         Err(fault_at(tokens, Wrong::NoGroup))
     }
@@ -182,7 +192,8 @@ pub(crate) fn leaving(
     ensures { IfOk result (λ r. stmt_tree_of r
         ≡ leaving reach (names_of names.now) (stmt_tree_of s)) }
 {
-    let third = dropped(alloc, task_in(reach, TaskGroup::Third, names), s)?;
+    let fourth = dropped(alloc, task_in(reach, TaskGroup::Fourth, names), s)?;
+    let third = dropped(alloc, task_in(reach, TaskGroup::Third, names), fourth)?;
     let second = dropped(alloc, task_in(reach, TaskGroup::Second, names), third)?;
     dropped(alloc, task_in(reach, TaskGroup::First, names), second)
 }
