@@ -1,4 +1,4 @@
-"""Sources with what gives a value inside other values, each with the arguments of its function."""
+"""Sources with what gives a value inside other values and in conditions, each with the arguments of its function."""
 
 LESS = "fn less(a, b) { return a - b }\n"
 FIB = "fn main(n) { if n < 2 { return n }; return call main(n - 1) + call main(n - 2) }\n"
@@ -33,4 +33,23 @@ ASKING = (
     ("cell c\nfn main(a, b) { c.local = a; return c.local * 100 + isolate bump(b) * 10 + c.local }\nfn bump(n) { c.local += n; return c.sum - 1 }\n", (4, 2)),
     ("cell c\nfn main(a, b) { c.local = a; let x = c.sum + c.count * 10; c.local = x; return x - c.local + c.sum }\n", (4, 2)),
     ("cell c\nfn main(a, b) { c.local = a; b -= c.local; if c.local == 4 { b *= c.local }; return b }\n", (4, 2)),
+    ("fn main(a, b) { if a % 10 == 7 && cancelled() { return 1 }; if b == 2 || !cancelled() { return 3 }; return 2 }\n", (7, 3)),
+    ("fn main(a, b) { return 7 / b + cancelled() * a }\n", (7, 0)),
+    ("fn main(a, b) { return a % b - (b || cancelled()) * 9 }\n", (7, 4)),
+    ("inline fn both(x, y) = x && y\nfn main(a, b) { return call less(a, 1) + both(a, !cancelled()) }\n" + LESS, (7, 0)),
+    ("fn main(a, b) { while a > 0 && !cancelled() { a -= 2; if a == 3 { continue }; b += a }; return b }\n", (9, 3)),
+    ("fn main(a, b) { while !(cancelled() || a < b) || cancelled() { a -= 2; b *= 2 }; return b }\n", (9, 3)),
+    ("inline fn near(x, y) = x - y < 3 && y - x < 3\nfn main(a, b) { while 60 / a > 2 && !near(cancelled() + a, b) { a += 1 }; return a }\n", (1, 9)),
+    ("fn main(a, b) { for i in 0..3 + (a && !cancelled()) { b += i * (1 - cancelled()) }; return b }\n", (9, 3)),
+    ("fn main(a, b) { return psum i in a..b grain 2 { let x = i; while x > 2 && !cancelled() { x -= 2 }; if x == 1 || cancelled() { give 10 }; give x } }\n", (0, 12)),
+    ("fn main(a, b) { if a > 9 { return 1 } else if call less(a, b) > 5 { return 2 } else if !cancelled() && a { return a * 10 }; return 3 }\n" + LESS, (7, 3)),
+    ("fn main(a, b) { for i in 0..9 { if i == a { break } else if call less(i, 1) * 2 + call less(b, i) == 5 { b += i } else if i < 2 { continue } else { b += 1 } }; return b }\n" + LESS, (7, 4)),
+    ("cell c\nfn main(a, b) { if a { b += 1 } else if isolate bump(b) { b += 2 }; return b * 10 + c.sum }\nfn bump(n) { c.local += 1; return n }\n", (4, 2)),
+    ("cell c\nfn main(a, b) { if a { b += 1 } else if isolate bump(b) { b += 2 }; return b * 10 + c.sum }\nfn bump(n) { c.local += 1; return n }\n", (0, 2)),
+    ("cell c\nfn main(a, b) { c.local = a; if b && c.sum == 4 { b = 7 }; return (b || c.sum) * 10 + 8 / b + c.count }\n", (4, 2)),
+    ("cell c\nfn main(a, b) { c.local = 1; while c.sum < 40 && c.count == 1 { let x = c.local; c.local = x + x; a += 1 }; return a * 100 + c.sum }\n", (4, 2)),
+    ("cell c\nfn main(a, b) { c.local = 0; while c.sum < 9 { c.local += 1; if c.local == 4 { continue }; b += c.local }; return b }\n", (4, 2)),
+    ("cell c\nfn main(a, b) { c.local = 0; while c.sum < 12 { while c.sum < 5 { c.local += 2 }; c.local += 1; if b > 5 { break }; b += c.local }; return b * 100 + c.sum }\n", (4, 2)),
+    ("cell c\nfn main(a, b) { c.local = 0; while a - c.sum > 1 { b += isolate bump(1) }; return b }\nfn bump(n) { c.local += n; return c.sum }\n", (6, 2)),
+    ("cell c\nfn main(a, b) { let x = a && c.count; let y = c.count; let z = c.local; return x * 100 + y * 10 + (a && c.count) + z }\n", (6, 2)),
 )

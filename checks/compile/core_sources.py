@@ -49,6 +49,7 @@ class Sources:
     cells: list[str] = field(default_factory=list)
     inlines: list[Inline] = field(default_factory=list)
     may_divide: bool = True
+    may_ask: bool = False
     parallel_loops: int = 0
     in_parallel: bool = False
     """How many parallel loops there are so far, and whether the body of one is drawn."""
@@ -257,9 +258,10 @@ class Sources:
     def choice(self, indent: int, depth: int, in_loop: bool) -> str:
         """An `if`, with the spaces before it."""
         room = "    " * indent
-        text = f"{room}if {self.condition(2)} {{\n{self.block(indent + 1, depth - 1, in_loop)}{room}}}"
+        text = f"{room}if {self.asking(2)} {{\n{self.block(indent + 1, depth - 1, in_loop)}{room}}}"
         if self.draws.random() < 0.3:
-            text += f" else if {self.condition(1)} {{\n{self.block(indent + 1, depth - 1, in_loop)}{room}}}"
+            test = f"{self.call()} > {self.value(1)}" if self.callees and self.draws.random() < 0.2 else self.asking(1)
+            text += f" else if {test} {{\n{self.block(indent + 1, depth - 1, in_loop)}{room}}}"
         if self.draws.random() < 0.4:
             text += f" else {{\n    {room}{self.draws.choice(self.names)} = {self.value(1)}\n{room}}}"
         return text + "\n"
@@ -271,7 +273,7 @@ class Sources:
         turn = f"t{self.count}"
         test = f"{turn} < {self.draws.randint(1, 4)}"
         if self.draws.random() < 0.3:
-            test += f" && {self.condition(1)}"
+            test += f" && {self.asking(1)}"
         body = self.block(indent + 1, depth - 1, in_loop=True)
         return f"{room}let {turn} = 0\n{room}while {test} {{\n{room}    {turn} += 1\n{body}{room}}}\n"
 
@@ -316,8 +318,17 @@ class Sources:
         self.may_divide = before
         return found
 
+    def asking(self, depth: int) -> str:
+        """A condition, which may ask something."""
+        self.may_ask = True
+        found = self.condition(depth)
+        self.may_ask = False
+        return found
+
     def condition(self, depth: int) -> str:
         """A condition."""
+        if self.may_ask and self.draws.random() < 0.1:
+            return self.draws.choice(("cancelled()", "!cancelled()", *(f"{it}.{part} < 3" for it in self.cells for part in ("sum", "count"))))
         if depth and (inserted := self.insertion()):
             return inserted
         kind = self.draws.choice(("compare", "compare", "both", "either", "not", "number")) if depth else "compare"

@@ -67,7 +67,8 @@ REPLIES = (
 )
 """Sources, the words for arena-compile, its status, its output, and standard error up to a colon and a space."""
 
-TAKEN = {"fib.job", "hash.job", "keeper.job", "longest.job", "posted.job", "primes.job", "queens.job", "serial.job", "sum.job"}
+TAKEN = {"fib.job", "hash.job", "keeper.job", "longest.job", "patient.job", "posted.job", "primes.job", "queens.job", "search.job", "serial.job",
+         "sum.job"}
 """The examples that arena-compile takes."""
 
 HEAD = re.compile(r"^fn |\bp(?:sum|min|max) ")

@@ -19,6 +19,7 @@ pub mod Groups
 pub mod Cells
 pub mod Givers
 pub mod Extents
+pub mod Questions
 pub mod Ahead
 pub mod Simple
 pub mod Returns

@@ -116,6 +116,19 @@ abbrev pub item_ended : List Token → Result (List Token) Fault
 item_ended [] = Ok []
 item_ended (t ∷ ts) = if is_line_end t.kind then Ok (t ∷ ts) else unexpected (t ∷ ts)
 
+-- a statement that is only in loops, whose word is the first of the tokens
+abbrev pub if_in_loop : Bool → StmtTree → List Token → List Token → Result (StmtTree × List Token) Fault
+if_in_loop true s rest ts = Ok (s, rest)
+if_in_loop false s rest ts = Err (fault_at ts wrong.NoLoop)
+
+abbrev pub is_if_of : Kind → Bool
+is_if_of kind.If = true
+is_if_of k = false
+
+abbrev pub is_if : List Token → Bool
+is_if [] = false
+is_if (t ∷ ts) = is_if_of t.kind
+
 -- what follows the end of a block, if it is here
 abbrev pub after_end : List Token → Option (List Token)
 after_end [] = None

@@ -15,7 +15,8 @@ use Rattle.source_reader.specs.Names.{Scope, WithName, Waited, Inner, Asked, mea
 use Rattle.source_reader.specs.Tasks.{free_group, waited, leaving, block_end}
 use Rattle.source_reader.specs.Ahead.{next_wait, next_ask}
 use Rattle.source_reader.specs.Givers.{giver_at}
-use Rattle.source_reader.specs.Lines.{leaves, after_begin, after_line_ends, ended, after_end, let_name}
+use Rattle.source_reader.specs.Questions.{asked_again}
+use Rattle.source_reader.specs.Lines.{leaves, after_begin, after_line_ends, ended, after_end, let_name, if_in_loop, is_if}
 use Rattle.source_reader.specs.declared.calls.Run.TheVariants as run
 use Rattle.source_reader.specs.Calls.{run_at, is_spawn}
 use Rattle.source_reader.specs.Groups.{gathered, group_at, into_at, cancel_at}
@@ -24,11 +25,12 @@ use Rattle.source_reader.specs.Counting.{counting_loop}
 use Rattle.source_reader.specs.Giving.{group_given, behind_group, give_at, return_in}
 use Rattle.source_reader.specs.Marks.{unexpected}
 
--- What is read: `{ .. }`; what follows `{`, where what comes may never be reached; a statement; or what may follow the block of an `if`. Each says whether there is a loop around it.
+-- What is read: `{ .. }`; what follows `{`, where what comes may never be reached; a statement; an `if` behind `else`; or what may follow the block of an `if`. Each says whether there is a loop around it.
 pub data Part : Type 0 where
   Block : (in_loop : Bool) → Part
   Rest : (in_loop left : Bool) → Part
   Line : (in_loop : Bool) → Part
+  Branch : (in_loop : Bool) → Part
   Otherwise : (in_loop : Bool) → Part
 
 abbrev pub Reader : Type 0
@@ -95,11 +97,12 @@ rest_of next names in_loop left (Some after) ts = block_end left names ts >>= λ
 rest_of next names in_loop true None ts = Err (fault_at ts wrong.NeverReached)
 rest_of next names in_loop false None ts = first_line next names in_loop (next_wait names ts) ts
 
+-- What the condition asks was asked before the loop, and is asked again behind each turn.
 abbrev pub while_at : Reader → Scope → List Token → ReadStmt
 while_at next names ts = do
   c ← condition_at names ts
   b ← next (Inner true names) (Block true) c.1
-  Ok (LoopTree c.0 b.0 SkipTree, b.1)
+  Ok (LoopTree c.0 b.0 (asked_again names ts), b.1)
 
 -- behind `for`
 abbrev pub for_at : Reader → Scope → List Token → ReadStmt
@@ -114,10 +117,6 @@ if_at next names in_loop ts = do
   a ← next (Inner false names) (Block in_loop) c.1
   b ← next names (Otherwise in_loop) a.1
   Ok (IfTree c.0 a.0 b.0, b.1)
-
-abbrev pub if_in_loop : Bool → StmtTree → List Token → List Token → ReadStmt
-if_in_loop true s rest ts = Ok (s, rest)
-if_in_loop false s rest ts = Err (fault_at ts wrong.NoLoop)
 
 abbrev pub line_of : Reader → Scope → Bool → Kind → List Token → List Token → ReadStmt
 line_of next names in_loop kind.Let rest ts = let_at names rest
@@ -143,17 +142,18 @@ abbrev pub line_at : Reader → Scope → Bool → List Token → ReadStmt
 line_at next names in_loop [] = unexpected []
 line_at next names in_loop (t ∷ ts) = line_of next names in_loop t.kind ts (t ∷ ts)
 
-abbrev pub is_if_of : Kind → Bool
-is_if_of kind.If = true
-is_if_of k = false
-
-abbrev pub is_if : List Token → Bool
-is_if [] = false
-is_if (t ∷ ts) = is_if_of t.kind
-
 -- behind `else`
 abbrev pub else_at : Reader → Scope → Bool → List Token → ReadStmt
-else_at next names in_loop ts = if is_if ts then next names (Line in_loop) ts else next (Inner false names) (Block in_loop) ts
+else_at next names in_loop ts = next (Inner false names) (if is_if ts then Branch in_loop else Block in_loop) ts
+
+-- What the condition asks is asked before it, if it is reached.
+abbrev pub branch_of : Reader → Scope → Bool → Option (List Token) → List Token → ReadStmt
+branch_of next names in_loop None ts = next names (Line in_loop) ts
+branch_of next names in_loop (Some asked) ts = do
+  n ← new_number names ts
+  c ← given_at names n asked
+  s ← next (Asked (length asked) (length c.1) n names) (Branch in_loop) ts
+  Ok (ThenTree c.0 s.0, s.1)
 
 abbrev pub otherwise_of : Reader → Scope → Bool → Kind → List Token → List Token → ReadStmt
 otherwise_of next names in_loop kind.Else rest ts = else_at next names in_loop rest
@@ -167,6 +167,7 @@ abbrev pub stmt_step : Reader → Scope → Part → List Token → ReadStmt
 stmt_step next names (Block in_loop) ts = after_begin ts >>= λ inside. next names (Rest in_loop false) inside
 stmt_step next names (Rest in_loop left) ts = rest_of next names in_loop left (after_end (after_line_ends ts)) (after_line_ends ts)
 stmt_step next names (Line in_loop) ts = line_at next names in_loop ts
+stmt_step next names (Branch in_loop) ts = branch_of next names in_loop (next_ask names ts) ts
 stmt_step next names (Otherwise in_loop) ts = otherwise_at next names in_loop ts
 
 -- The number bounds how deep blocks are nested and how many statements there are.

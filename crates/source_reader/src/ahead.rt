@@ -1,4 +1,5 @@
 // What is done before a line: tasks that it waits for, and what gives a value inside its values, from left to right.
+// Of what the line may skip, only questions are asked.
 ghost use Rattle.std.specs.Prelude.{◌≡◌, option_map};
 ghost use Rattle.source_reader.specs.Ahead.{ahead_by, asks, ahead_of, wait_in, is_cell, is_first, next_wait, may_divide, ask_in, next_ask};
 ghost use Rattle.source_reader.specs.Names.{names_of};
@@ -6,6 +7,7 @@ ghost use Rattle.source_reader.specs.Names.{names_of};
 use crate::extents::alone;
 use crate::givers::giver_at;
 use crate::names::{Meaning, Names, Task, inline_of, meaning_of};
+use crate::questions::question_in;
 use crate::tasks::{Reach, pending_task};
 use crate::waits::{is_unread, task_at};
 use source_tokens::{Kind, Sign, Token};
@@ -16,6 +18,8 @@ pub(crate) enum Ahead {
     Waits(Task),
     /// What gives a value, inside another value.
     Asks,
+    /// Of what follows, which may be skipped, only questions are asked before the line.
+    Skips,
     /// What follows is not done before the line.
     Ends,
     GoesOn,
@@ -37,8 +41,8 @@ fn ahead_by(names: &Names, kind: Kind, rest: &[Token]) -> Ahead
                 Ahead::GoesOn
             }
         }
-        Kind::Sign(Sign::And) => Ahead::Ends,
-        Kind::Sign(Sign::Or) => Ahead::Ends,
+        Kind::Sign(Sign::And) => Ahead::Skips,
+        Kind::Sign(Sign::Or) => Ahead::Skips,
         Kind::LineEnd => Ahead::Ends,
         Kind::Begin => Ahead::Ends,
         Kind::End => Ahead::Ends,
@@ -73,6 +77,7 @@ fn wait_in(names: &Names, alone: usize, tokens: &[Token]) -> Option<Task>
         match ahead_of(names, alone, first.kind, left, rest) {
             Ahead::Waits(task) => return Some(task),
             Ahead::Asks => return None,
+            Ahead::Skips => return None,
             Ahead::Ends => return None,
             Ahead::GoesOn => left = rest,
         }
@@ -89,7 +94,7 @@ fn is_cell(meaning: Option<Meaning>) -> bool
     }
 }
 
-/// Whether nothing is done before a line that begins so.
+/// Whether there is no wait before a line that begins so.
 fn is_first(names: &Names, kind: Kind) -> bool
     ensures { result ≡ is_first (names_of names.now) kind }
 {
@@ -141,10 +146,11 @@ fn ask_in<'a>(names: &Names, alone: usize, tokens: &'a [Token]) -> Option<&'a [T
         match ahead_of(names, alone, first.kind, left, rest) {
             Ahead::Waits(_) => return None,
             Ahead::Asks => return Some(left),
+            Ahead::Skips => return question_in(names, rest),
             Ahead::Ends => return None,
             Ahead::GoesOn => {
                 if may_divide(names, first.kind) {
-                    return None;
+                    return question_in(names, rest);
                 }
                 left = rest;
             }
@@ -158,11 +164,16 @@ pub(crate) fn next_ask<'a>(names: &Names, tokens: &'a [Token]) -> Option<&'a [To
     ensures { option_map (λ ts. ts.now) result ≡ next_ask (names_of names.now) tokens.entry.now }
 {
     let (first, rest) = tokens.split_first()?;
-    if is_first(names, first.kind) {
-        return None;
-    }
-    match ahead_by(names, first.kind, rest) {
-        Ahead::GoesOn => ask_in(names, alone(names, tokens), rest),
-        _ => None,
+    match first.kind {
+        Kind::While => question_in(names, rest),
+        kind => {
+            if is_first(names, kind) {
+                return None;
+            }
+            match ahead_by(names, kind, rest) {
+                Ahead::GoesOn => ask_in(names, alone(names, tokens), rest),
+                _ => None,
+            }
+        }
     }
 }

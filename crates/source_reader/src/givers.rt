@@ -1,7 +1,7 @@
 // What gives a value that no expression computes.
 ghost use Rattle.std.specs.Prelude.{◌≡◌, Some};
 ghost use Rattle.source_reader.specs.Faults.{Gives};
-ghost use Rattle.source_reader.specs.Givers.{part_at, named_giver, giver_at, cancelled_at, given_by};
+ghost use Rattle.source_reader.specs.Givers.{part_at, named_giver, giver_of, giver_at, cancelled_at, given_by};
 ghost use Rattle.source_reader.specs.Names.{names_of, meaning_of};
 ghost use Rattle.source_reader.specs.Trees.{stmt_tree_of};
 
@@ -63,15 +63,11 @@ fn named_giver(name: usize, names: &Names, tokens: &[Token]) -> Option<Giver>
     }
 }
 
-/// The one whose word, or whose cell, is at the front, if it was not asked before.
-pub(crate) fn giver_at(names: &Names, tokens: &[Token]) -> Option<Giver>
-    ensures { result ≡ giver_at (names_of names.now) tokens.now }
+/// The one whose word, or whose cell, stands before these tokens.
+pub(crate) fn giver_of(names: &Names, kind: Kind, rest: &[Token]) -> Option<Giver>
+    ensures { result ≡ giver_of kind (names_of names.now) rest.now }
 {
-    let (first, rest) = tokens.split_first()?;
-    if asked_in(tokens.len(), names).is_some() {
-        return None;
-    }
-    match first.kind {
+    match kind {
         Kind::Call => Some(Giver::Call),
         Kind::Isolate => Some(Giver::Isolate),
         Kind::Cancelled => Some(Giver::Cancelled),
@@ -80,6 +76,17 @@ pub(crate) fn giver_at(names: &Names, tokens: &[Token]) -> Option<Giver>
         Kind::Name(name) => named_giver(name, names, rest),
         _ => None,
     }
+}
+
+/// The one whose word, or whose cell, is at the front, if it was not asked before.
+pub(crate) fn giver_at(names: &Names, tokens: &[Token]) -> Option<Giver>
+    ensures { result ≡ giver_at (names_of names.now) tokens.now }
+{
+    let (first, rest) = tokens.split_first()?;
+    if asked_in(tokens.len(), names).is_some() {
+        return None;
+    }
+    giver_of(names, first.kind, rest)
 }
 
 /// `()`, behind `cancelled`.

@@ -26,6 +26,7 @@ mod marks;
 mod names;
 mod parameters;
 mod places;
+mod questions;
 mod ranges;
 mod returns;
 mod simple;

@@ -2,11 +2,13 @@
 ghost use Rattle.std.specs.Prelude.{◌≡◌, option_map};
 ghost use Rattle.source_reader.specs.Faults.{Gives};
 ghost use Rattle.source_reader.specs.Names.{names_of};
-ghost use Rattle.source_reader.specs.Lines.{after_begin, after_set, after_in, after_range, after_comma, name_at, free_name, is_line_end, is_end, after_line_ends, ended, item_ended, after_end, name_in, let_name};
+ghost use Rattle.source_reader.specs.Lines.{after_begin, after_set, after_in, after_range, after_comma, name_at, free_name, is_line_end, is_end, after_line_ends, ended, item_ended, after_end, name_in, let_name, if_in_loop, is_if};
 ghost use Rattle.source_reader.specs.Marks.{is_close};
+ghost use Rattle.source_reader.specs.Trees.{stmt_tree_of};
 
 use crate::faults::{ReadError, Wrong, fault_at};
 use crate::names::{Names, meaning_of};
+use source_language::Stmt;
 use source_tokens::{Kind, Token};
 
 /// What follows `{`.
@@ -200,5 +202,35 @@ pub(crate) fn let_name(tokens: &[Token]) -> Option<usize>
             name_in(second.kind)
         }
         _ => None,
+    }
+}
+
+/// Whether there is an `if` at the front.
+pub(crate) fn is_if(tokens: &[Token]) -> bool
+    ensures { result ≡ is_if tokens.now }
+{
+    match tokens.split_first() {
+        Some((first, _)) => match first.kind {
+            Kind::If => true,
+            _ => false,
+        },
+        None => false,
+    }
+}
+
+/// A statement that is only in loops.
+pub(crate) fn if_in_loop<'a>(
+    in_loop: bool,
+    s: Stmt,
+    rest: &'a [Token],
+    tokens: &[Token],
+) -> Result<(Stmt, &'a [Token]), ReadError>
+    ensures { Gives (λ x. (stmt_tree_of x.0, x.1.now)) result
+        (if_in_loop in_loop (stmt_tree_of s) rest.entry.now tokens.now) }
+{
+    if in_loop {
+        Ok((s, rest))
+    } else {
+        Err(fault_at(tokens, Wrong::NoLoop))
     }
 }

@@ -3,7 +3,7 @@ ghost use Rattle.std.specs.Prelude.{◌≡◌, false};
 ghost use Rattle.source_reader.specs.Faults.{Gives};
 ghost use Rattle.source_reader.specs.Trees.{stmt_tree_of};
 ghost use Rattle.source_reader.specs.Names.{names_of};
-ghost use Rattle.source_reader.specs.Statements.{is_if, if_in_loop, ask_and_rest, line_and_rest, for_at, stmt_at, Block, Rest, Line, Otherwise};
+ghost use Rattle.source_reader.specs.Statements.{ask_and_rest, line_and_rest, for_at, stmt_at, Block, Rest, Line, Branch, Otherwise};
 
 use crate::ahead::{next_ask, next_wait};
 use crate::calls::{Run, run_at};
@@ -12,9 +12,10 @@ use crate::faults::{ReadError, Wrong, fault_at};
 use crate::givers::giver_at;
 use crate::giving::{give_at, group_given, return_in};
 use crate::groups::{cancel_at, gathered, group_at, into_at};
-use crate::lines::{after_begin, after_end, after_line_ends, ended, let_name};
+use crate::lines::{after_begin, after_end, after_line_ends, ended, if_in_loop, is_if, let_name};
 use crate::loops::counting_loop;
 use crate::names::{Meaning, Names, new_number};
+use crate::questions::asked_again;
 use crate::simple::{
     Count, assigned_at, condition_at, count_at, given_at, let_at, region_at, sync_at, wait_at,
 };
@@ -23,35 +24,6 @@ use crate::trees::{choice, leaves, looped, then};
 use source_language::Stmt;
 use source_tokens::{Kind, Token};
 use std::alloc::Global;
-
-fn is_if(tokens: &[Token]) -> bool
-    ensures { result ≡ is_if tokens.now }
-{
-    match tokens.split_first() {
-        Some((first, _)) => match first.kind {
-            Kind::If => true,
-            _ => false,
-        },
-        None => false,
-    }
-}
-
-/// A statement that is only in loops.
-fn if_in_loop<'a>(
-    in_loop: bool,
-    s: Stmt,
-    rest: &'a [Token],
-    tokens: &[Token],
-) -> Result<(Stmt, &'a [Token]), ReadError>
-    ensures { Gives (λ x. (stmt_tree_of x.0, x.1.now)) result
-        (if_in_loop in_loop (stmt_tree_of s) rest.entry.now tokens.now) }
-{
-    if in_loop {
-        Ok((s, rest))
-    } else {
-        Err(fault_at(tokens, Wrong::NoLoop))
-    }
-}
 
 /// `{ .. }`.
 #[tactic(auto, using(crate::proofs::StmtSteps::stmt_steps))]
@@ -222,7 +194,8 @@ fn line_at<'a>(
             let (condition, after) = condition_at(alloc, names, rest)?;
             let inner = Names::Inner(true, &*names);
             let (body, after) = block_at(alloc, &inner, true, fuel - 1, after)?;
-            Ok((looped(alloc, condition, body)?, after))
+            let step = asked_again(alloc, names, rest)?;
+            Ok((looped(alloc, condition, body, step)?, after))
         }
         Kind::For => for_at(alloc, names, fuel - 1, rest),
         Kind::If => {
@@ -233,6 +206,34 @@ fn line_at<'a>(
             Ok((choice(alloc, condition, then, other)?, after))
         }
         _ => Err(fault_at(tokens, Wrong::Unexpected)),
+    }
+}
+
+/// An `if` behind `else`. What its condition asks is asked before it.
+#[tactic(auto, using(crate::proofs::StmtSteps::stmt_steps))]
+#[cycle(statements)]
+fn branch_at<'a>(
+    alloc: Global,
+    names: &Names,
+    in_loop: bool,
+    fuel: u16,
+    tokens: &'a [Token],
+) -> Result<(Stmt, &'a [Token]), ReadError>
+    ensures { Gives (λ x. (stmt_tree_of x.0, x.1.now)) result
+        (stmt_at fuel (names_of names.now) (Branch in_loop) tokens.entry.now) }
+{
+    if fuel == 0 {
+        return Err(fault_at(tokens, Wrong::TooLong));
+    }
+    match next_ask(names, tokens) {
+        None => line_at(alloc, names, in_loop, fuel - 1, tokens),
+        Some(asked) => {
+            let number = new_number(names, tokens)?;
+            let (given, behind) = given_at(alloc, names, number, asked)?;
+            let inner = Names::Asked(asked.len(), behind.len(), number, &*names);
+            let (branch, after) = branch_at(alloc, &inner, in_loop, fuel - 1, tokens)?;
+            Ok((then(alloc, given, branch)?, after))
+        }
     }
 }
 
@@ -286,10 +287,10 @@ fn otherwise_at<'a>(
     };
     match first.kind {
         Kind::Else => {
+            let inner = Names::Inner(false, &*names);
             if is_if(rest) {
-                line_at(alloc, names, in_loop, fuel - 1, rest)
+                branch_at(alloc, &inner, in_loop, fuel - 1, rest)
             } else {
-                let inner = Names::Inner(false, &*names);
                 block_at(alloc, &inner, in_loop, fuel - 1, rest)
             }
         }

@@ -1,6 +1,6 @@
 // Statements of parts.
 ghost use Rattle.std.specs.Prelude.{◌≡◌, IfOk};
-ghost use Rattle.source_reader.specs.Trees.{tree_of, test_tree_of, stmt_tree_of, value_tree_of, ThenTree, IfTree, LoopTree, SkipTree};
+ghost use Rattle.source_reader.specs.Trees.{tree_of, test_tree_of, stmt_tree_of, value_tree_of, ThenTree, IfTree, LoopTree};
 ghost use Rattle.source_reader.specs.Lines.{assigned, returned, leaves};
 
 use crate::joining::Value;
@@ -21,12 +21,12 @@ pub(crate) fn choice(alloc: Global, c: Test, a: Stmt, b: Stmt) -> Result<Stmt, A
 }
 
 /// A loop that goes on as long as the condition holds.
-pub(crate) fn looped(alloc: Global, c: Test, body: Stmt) -> Result<Stmt, AllocError>
-    ensures { IfOk result
-        (λ s. stmt_tree_of s ≡ LoopTree (test_tree_of c) (stmt_tree_of body) SkipTree) }
+pub(crate) fn looped(alloc: Global, c: Test, body: Stmt, step: Stmt) -> Result<Stmt, AllocError>
+    ensures { IfOk result (λ s. stmt_tree_of s
+        ≡ LoopTree (test_tree_of c) (stmt_tree_of body) (stmt_tree_of step)) }
 {
     let body = Box::new(alloc, body)?;
-    Ok(Stmt::Loop(c, body, Box::new(alloc, Stmt::Skip)?))
+    Ok(Stmt::Loop(c, body, Box::new(alloc, step)?))
 }
 
 /// A variable is given a value.

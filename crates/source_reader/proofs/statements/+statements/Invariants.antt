@@ -16,6 +16,9 @@ decreases-lines_at l = 2 * l.fuel + 1
 abbrev pub decreases-line_at : goal.decreases-line_at
 decreases-line_at l = 2 * l.fuel
 
+abbrev pub decreases-branch_at : goal.decreases-branch_at
+decreases-branch_at l = 2 * l.fuel
+
 abbrev pub decreases-for_at : goal.decreases-for_at
 decreases-for_at l = 2 * l.fuel + 1
 
