@@ -6,8 +6,8 @@ use Rattle.source_language.specs.Meaning.{is_nought}
 use Rattle.source_tokens.specs.declared.tokens.Gathers.{Gathers}
 use Rattle.source_tokens.specs.declared.tokens.Gathers.TheVariants as gathers
 use Rattle.source_reader.specs.declared.halving.TheConstants.{LOW, HIGH, TOTAL, OTHER, LOWER, UPPER}
-use Rattle.source_reader.specs.Counting.{before_end, is_further, turns}
-use Rattle.source_reader.specs.Trees.{ExprTree, TestTree, StmtTree, Constant, Variable, TwoTree, HoldsTree, BothTree, SkipTree, ThenTree, AssignTree, IfTree, ContinueTree, ReturnTree, MakeTree, WaitTree}
+use Rattle.source_reader.specs.Counting.{to_end, turns}
+use Rattle.source_reader.specs.Trees.{ExprTree, TestTree, StmtTree, Constant, Variable, TwoTree, HoldsTree, SkipTree, ThenTree, AssignTree, IfTree, ContinueTree, ReturnTree, MakeTree, WaitTree}
 
 -- what comes of no numbers
 abbrev pub neutral : Gathers → ℤ
@@ -29,9 +29,10 @@ taken gathers.Sum e = if is_0 e then SkipTree else AssignTree TOTAL (TwoTree op.
 taken gathers.Least e = taken_if e (Variable TOTAL) e
 taken gathers.Greatest e = taken_if (Variable TOTAL) e e
 
--- whether there are more numbers than one task takes
+-- Whether there are more numbers than one task takes. The difference wraps only if there are 2^63 numbers or more, which are taken one by one; or if there
+-- are none, and the ends are as far from each other: then both halves have none.
 abbrev pub is_long : (most : ℤ) → TestTree
-is_long n = BothTree (HoldsTree (before_end LOW HIGH (pos 1))) (is_further LOW HIGH n)
+is_long n = HoldsTree (TwoTree op.Below (Constant n) (to_end LOW HIGH))
 
 -- Where the range is halved: both ends in their bits in common, and half of the others. Nothing wraps.
 abbrev pub middle : ExprTree

@@ -6,7 +6,7 @@ ghost use Rattle.source_reader.specs.Trees.{tree_of, test_tree_of, stmt_tree_of}
 
 use crate::folding::two;
 use crate::inlines::copied;
-use crate::loops::{before_end, is_further, turns};
+use crate::loops::{to_end, turns};
 use crate::trees::{choice, then};
 use job_language::Group;
 use source_language::{Expr, Maker, Operator, Stmt, Test};
@@ -95,9 +95,8 @@ pub(crate) fn taken(alloc: Global, gathers: Gathers, e: Expr) -> Result<Stmt, Al
 fn is_long(alloc: Global, most: i64) -> Result<Test, AllocError>
     ensures { IfOk result (λ t. test_tree_of t ≡ is_long most) }
 {
-    let some = Test::Holds(before_end(alloc, LOW, HIGH, 1)?);
-    let many = is_further(alloc, LOW, HIGH, most)?;
-    Ok(Test::Both(Box::new(alloc, some)?, Box::new(alloc, many)?))
+    let size = to_end(alloc, LOW, HIGH)?;
+    Ok(Test::Holds(two(alloc, Operator::Below, Expr::Number(most), size)?))
 }
 
 /// Where the range is halved.

@@ -10,7 +10,7 @@ use source_language::{Expr, Operator, Stmt, Test};
 use std::alloc::{AllocError, Global};
 
 /// Whether the end is not reached.
-pub(crate) fn before_end(alloc: Global, index: u8, end: u8, by: i64) -> Result<Expr, AllocError>
+fn before_end(alloc: Global, index: u8, end: u8, by: i64) -> Result<Expr, AllocError>
     ensures { IfOk result (λ e. tree_of e ≡ before_end index end by) }
 {
     let index = Expr::Variable(index);
@@ -23,7 +23,7 @@ pub(crate) fn before_end(alloc: Global, index: u8, end: u8, by: i64) -> Result<E
 }
 
 /// How far the end is, which may wrap.
-fn to_end(alloc: Global, index: u8, end: u8) -> Result<Expr, AllocError>
+pub(crate) fn to_end(alloc: Global, index: u8, end: u8) -> Result<Expr, AllocError>
     ensures { IfOk result (λ e. tree_of e ≡ to_end index end) }
 {
     two(
@@ -41,7 +41,7 @@ fn is_behind(alloc: Global, e: Expr) -> Result<Test, AllocError>
 }
 
 /// Whether the end, which is not reached, is further than a step.
-pub(crate) fn is_further(alloc: Global, index: u8, end: u8, by: i64) -> Result<Test, AllocError>
+fn is_further(alloc: Global, index: u8, end: u8, by: i64) -> Result<Test, AllocError>
     ensures { IfOk result (λ t. test_tree_of t ≡ is_further index end by) }
 {
     let has_wrapped = is_behind(alloc, to_end(alloc, index, end)?)?;
