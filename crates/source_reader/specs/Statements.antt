@@ -25,7 +25,8 @@ use Rattle.source_reader.specs.Counting.{counting_loop}
 use Rattle.source_reader.specs.Giving.{group_given, behind_group, give_at, return_in}
 use Rattle.source_reader.specs.Marks.{unexpected}
 
--- What is read: `{ .. }`; what follows `{`, where what comes may never be reached; a statement; an `if` behind `else`; or what may follow the block of an `if`. Each says whether there is a loop around it.
+-- What is read: `{ .. }`; what follows `{`, where what comes may never be reached; a statement; an `if` behind `else`; or what may follow the block of an
+-- `if`. Each says whether there is a loop around it.
 pub data Part : Type 0 where
   Block : (in_loop : Bool) → Part
   Rest : (in_loop left : Bool) → Part
