@@ -89,7 +89,7 @@ fn words_of(wrong: Wrong) -> &'static str {
         Wrong::NotGroup => "no group of this name, nor a task to cancel, is there to be waited for",
         Wrong::TaskLeft => "a task or a group of this block is not waited for before it ends",
         Wrong::NoGroup =>
-            "no group is left: wait for a task before, since 3 at most may be there that were not waited for",
+            "no group is left: wait for a task before, since there are 4, and a call needs one",
         Wrong::TooManyFunctions => "a job has at most 16 functions, and each parallel loop is one",
         Wrong::NoFunction => "there is no fn: write `fn main(x, y) { .. }`",
     }
