@@ -71,6 +71,9 @@ TAKEN = {"fib.job", "hash.job", "keeper.job", "longest.job", "patient.job", "pos
          "sum.job"}
 """The examples that arena-compile takes."""
 
+MOST_FUEL = 1.3
+"""How many times the fuel of the job by the compiler in Python one by arena-compile may use, for the examples, on one slot."""
+
 HEAD = re.compile(r"^fn |\bp(?:sum|min|max) ")
 """Where a function begins that becomes a procedure."""
 
@@ -174,7 +177,14 @@ def example_differences(program: str, draws: random.Random) -> list[str]:
             sums = {cell: given.cells.get(keys[cell], 0) for cell in example.cells}
             if (given.value, sums) != (example.value, example.cells):
                 found.append(f"{file.name}: {given} and not as in {example.text}")
+            found += too_much_fuel(file.name, json.loads(output), compile_source(source, args=example.args).job)
     return [*found, *(f"{it} is taken, or not any more" for it in sorted(taken ^ TAKEN))]
+
+
+def too_much_fuel(name: str, job: Mapping[str, object], other: Job) -> list[str]:
+    """What is wrong with the fuel that a job uses beside the same one by the compiler in Python, if something is."""
+    used, most = rehearse(job).fuel, MOST_FUEL * rehearse(other.to_value()).fuel
+    return [f"{name}: {used} instructions, and not {most:.0f} at most"] if used > most else []
 
 
 def refused_difference(program: str, source: str, place: str) -> str:
