@@ -1,5 +1,5 @@
 -- What the code of a condition does.
-use Rattle.std.proofs.Common.{◌≡◌, ℕ, zero, suc, ◌+◌, ◌<◌, ◌≤◌, ◌^◌, ℤ, pos, negsuc, Bool, true, false, not, if◌then◌else◌, List, [], ◌∷◌, ◌++◌, length, Option, Some, None, option_map, refl, ap}
+use Rattle.std.proofs.Common.{◌≡◌, ℕ, zero, suc, ◌+◌, ◌<◌, ◌≤◌, ◌^◌, ℤ, pos, negsuc, Bool, true, false, not, if◌then◌else◌, List, [], ◌∷◌, ◌++◌, length, Option, Some, None, option_map, refl, sym, ap}
 use Rattle.std.proofs.Common.{subst, ◌∙◌, FitsSigned, Box, Global}
 use Rattle.std.proofs.Common.{arith, length-append}
 use Rattle.std.specs.Int.{w64}
@@ -15,7 +15,7 @@ use Rattle.source_language.specs.declared.syntax.Test.{Test}
 use Rattle.source_language.specs.declared.syntax.Test.TheVariants.{Holds, Not', Both', Either'}
 use Rattle.source_language.specs.Meaning.{is_nought, result_of, on_both, value_of, if_true, if_false, test_of}
 use Rattle.job_compiler.specs.Within.{IsWithin, IsTestWithin}
-use Rattle.job_compiler.specs.Code.{op_instr, operand, above, operand_code, opposed, opposed_code, jump_code, jumps, is_zero, compared, holds_size, holds_code, test_size, test_code}
+use Rattle.job_compiler.specs.Code.{op_instr, operand, operand_code, both_code, left_of, right_of, opposed, opposed_code, jump_code, jumps, is_zero, compared, holds_size, holds_code, test_size, test_code}
 use Rattle.job_compiler.proofs.Opposites.{compared_same, AreOpposed, below_opposed, at_most_opposed, equal_opposed, minus_opposed}
 use Rattle.job_compiler.proofs.Values.{FitsIf, value_fits}
 use Rattle.job_compiler.proofs.Steps.{AreAllKept, Agree, at, HasAt, has_front, has_back, Comes, Fails, comes_on, fails_on, one_step, BringsIf, Brings, operand_runs, exchanged_runs, still}
@@ -26,11 +26,10 @@ opposed_length o (Variable x) t = refl
 opposed_length o Slot t = refl
 opposed_length o Width t = refl
 opposed_length o (Two' op p a q b) t =
-    let ca = operand_code a t in
-    let cb = operand_code b (above a t) in
-    let i = op_instr op t (operand a t) (operand b (above a t)) in
-    let j = op_instr o t (operand b (above a t)) (operand a t) in
-    omega (arith, length-append ca (cb ++ i ∷ []), length-append cb (i ∷ []), length-append ca (cb ++ j ∷ []), length-append cb (j ∷ []))
+    let code = both_code a b t in
+    let i = op_instr op t (left_of a b t) (right_of a b t) in
+    let j = op_instr o t (right_of a b t) (left_of a b t) in
+    length-append code (j ∷ []) ∙ sym (length-append code (i ∷ []))
 
 jump_length : (w : Bool) (o : Option Operator) (e : Expr) (to t at : ℕ) → length (jump_code w o e to t at) ≡ length (operand_code e t) + jumps w o
 jump_length false o e to t at = length-append (operand_code e t) (instr.Jz (operand e t) to ∷ [])

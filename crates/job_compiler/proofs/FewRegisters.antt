@@ -17,11 +17,12 @@ use Rattle.source_language.specs.declared.syntax.Stmt.{Stmt}
 use Rattle.source_language.specs.declared.syntax.Stmt.TheVariants.{Skip, Then', Assign, If', Loop', Repeat', Break, Continue, Return, Make, Wait, Cancel, Read, Store}
 use Rattle.source_language.specs.declared.syntax.Function.{Function}
 use Rattle.job_compiler.specs.declared.labels.Label.{Label}
-use Rattle.job_compiler.specs.Code.{op_instr, operand, above, register_for, operand_code, value_code, opposed, opposed_code, jump_code, compared, holds_code, over_size, over_code, test_size}
+use Rattle.job_compiler.specs.Code.{op_instr, operand, above, is_right_first, left_free, right_free, in_order, register_for, operand_code, value_code, both_code, left_of, right_of, opposed, opposed_code}
+use Rattle.job_compiler.specs.Code.{jump_code, compared, holds_code, over_size, over_code, test_size}
 use Rattle.job_compiler.specs.Code.{test_code, make_instr}
 use Rattle.job_compiler.specs.Code.{read_instr, stmt_size, stmt_code, loop_test}
 use Rattle.job_compiler.specs.Code.{loop_label, function_code}
-use Rattle.job_compiler.specs.Registers.{IsOperandLow, IsValueLow, IsHeldLow, IsTestLow, IsMakerLow, IsStmtLow, FitsVirtualRegisters}
+use Rattle.job_compiler.specs.Registers.{IsOperandLow, AreBothLow, IsValueLow, IsHeldLow, IsTestLow, IsMakerLow, IsStmtLow, FitsVirtualRegisters}
 
 pub all_of : {X : Type 0} (P : X → Type 0) (xs : List X) → All P xs → AllByRecursion P xs
 all_of P [] h = tt
@@ -57,17 +58,28 @@ module _ (len : ℕ) where
   op_low AtMost d a b h = h.0
   op_low Equal d a b h = h.0
 
-  operand_low : (e : Expr) (t : ℕ) → Good (operand_code e t) → operand e t < 8 → IsOperandLow 255 e t
+  abbrev Low : Expr → Type 0
+  Low e = (t : ℕ) → Good (operand_code e t) → operand e t < 8 → IsOperandLow 255 e t
+
+  in_order_low : (right_first : Bool) (a b : Expr) (t : ℕ) → Low a → Low b → Good (in_order right_first (operand_code a (left_free right_first b t)) (operand_code b (right_free right_first a t)))
+      → operand a (left_free right_first b t) < 8 → operand b (right_free right_first a t) < 8
+      → IsOperandLow 255 a (left_free right_first b t) × IsOperandLow 255 b (right_free right_first a t)
+  in_order_low false a b t la lb h ra rb = let ca = operand_code a t in (la t (front ca _ h) ra, lb (above a t) (back ca _ h) rb)
+  in_order_low true a b t la lb h ra rb = let cb = operand_code b t in (la (above b t) (back cb _ h) ra, lb t (front cb _ h) rb)
+
+  operand_low : (e : Expr) → Low e
   operand_low (Number z) t h low = up t low
   operand_low (Variable x) t h low = up x low
   operand_low Slot t h low = up t low
   operand_low Width t h low = up t low
   operand_low (Two' op p a q b) t h low =
-      let ca = operand_code a t in
-      let cb = operand_code b (above a t) in
-      let hb = back ca _ h in
-      let o = op_low op t (operand a t) (operand b (above a t)) (back cb _ hb) in
-      (operand_low a t (front ca _ h) o.1, operand_low b (above a t) (front cb _ hb) o.2, up t low)
+      let code = both_code a b t in
+      let o = op_low op t (left_of a b t) (right_of a b t) (back code _ h) in
+      let both = in_order_low (is_right_first a b) a b t (operand_low a) (operand_low b) (front code _ h) o.1 o.2 in
+      (both.0, both.1, up t low)
+
+  both_low : (a b : Expr) (t : ℕ) → Good (both_code a b t) → left_of a b t < 8 → right_of a b t < 8 → AreBothLow 255 a b t
+  both_low a b t h ra rb = in_order_low (is_right_first a b) a b t (operand_low a) (operand_low b) h ra rb
 
   value_low : (e : Expr) (d t : ℕ) → Good (value_code e d t) → (d < 255) × IsValueLow 255 e t
   value_low (Number z) d t h = (up d h.0.0, tt)
@@ -75,11 +87,9 @@ module _ (len : ℕ) where
   value_low Slot d t h = (up d h.0, tt)
   value_low Width d t h = (up d h.0, tt)
   value_low (Two' op p a q b) d t h =
-      let ca = operand_code a t in
-      let cb = operand_code b (above a t) in
-      let hb = back ca _ h in
-      let o = op_low op d (operand a t) (operand b (above a t)) (back cb _ hb) in
-      (up d o.0, (operand_low a t (front ca _ h) o.1, operand_low b (above a t) (front cb _ hb) o.2))
+      let code = both_code a b t in
+      let o = op_low op d (left_of a b t) (right_of a b t) (back code _ h) in
+      (up d o.0, both_low a b t (front code _ h) o.1 o.2)
 
   past_low : (e : Expr) (to t at : ℕ) → Good (jump_code true None e to t at) → IsOperandLow 255 e t
   past_low e to t at h = let ce = operand_code e t in operand_low e t (front ce _ h) (back ce _ h).0.0
@@ -88,12 +98,11 @@ module _ (len : ℕ) where
       → IsOperandLow 255 (Two' op p a q b) t
   two_low None op p a q b to t at h = past_low (Two' op p a q b) to t at h
   two_low (Some o) op p a q b to t at h =
-      let ca = operand_code a t in
-      let cb = operand_code b (above a t) in
-      let code = front (opposed_code o (Two' op p a q b) t) _ h in
-      let hb = back ca _ code in
-      let r = op_low o t (operand b (above a t)) (operand a t) (back cb _ hb) in
-      (operand_low a t (front ca _ code) r.2, operand_low b (above a t) (front cb _ hb) r.1, up t r.0)
+      let code = both_code a b t in
+      let all = front (opposed_code o (Two' op p a q b) t) _ h in
+      let r = op_low o t (right_of a b t) (left_of a b t) (back code _ all) in
+      let both = both_low a b t (front code _ all) r.2 r.1 in
+      (both.0, both.1, up t r.0)
 
   so_low : (e : Expr) (to t at : ℕ) → Good (jump_code true (opposed e) e to t at) → IsOperandLow 255 e t
   so_low (Number z) to t at h = past_low (Number z) to t at h
@@ -166,11 +175,9 @@ module _ (len : ℕ) where
   stmt_low (Continue k) t at labels ret h = tt
   stmt_low (Return e) t at labels ret h = let ce = operand_code e t in operand_low e t (front ce _ h) (back ce _ h).0
   stmt_low (Make m p a b) t at labels ret h =
-      let ca = operand_code a t in
-      let cb = operand_code b (above a t) in
-      let h2 = back ca _ h in
-      let r = make_low m p (operand a t) (operand b (above a t)) (back cb _ h2).0 in
-      (r.0, operand_low a t (front ca _ h) r.1, operand_low b (above a t) (front cb _ h2) r.2)
+      let code = both_code a b t in
+      let r = make_low m p (left_of a b t) (right_of a b t) (back code _ h).0 in
+      (r.0, both_low a b t (front code _ h) r.1 r.2)
   stmt_low (Wait d e g) t at labels ret h = (up (register_for d t) h.0.0, up (register_for e t) h.0.1)
   stmt_low (Cancel g) t at labels ret h = tt
   stmt_low (Read d q) t at labels ret h = read_low d q h.0

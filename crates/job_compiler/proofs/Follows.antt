@@ -21,14 +21,13 @@ use Rattle.source_language.specs.declared.syntax.Question.TheVariants.{Cancelled
 use Rattle.source_language.specs.Meaning.{Returns, Stores, Todo, Do, Turn, Next, Point, Act, Does, next_turn, past_loop, with_value, with_test, goes, made_by, asked_by, put_into, act_of, act_on}
 use Rattle.source_language.specs.Meaning.{answered, value_of, test_of}
 use Rattle.job_compiler.specs.Within.{IsStmtWithin, IsMakerWithin}
-use Rattle.job_compiler.specs.Code.{operand, operand_code, above, value_code, make_instr, read_instr, over_size, over_code, test_size, test_code, stmt_size, loop_test, loop_end, loop_label}
+use Rattle.job_compiler.specs.Code.{operand, operand_code, both_code, left_of, right_of, value_code, make_instr, read_instr, over_size, over_code, test_size, test_code, stmt_size, loop_test, loop_end, loop_label}
 use Rattle.job_compiler.specs.Code.{after_of, next_of, register_for}
 use Rattle.job_compiler.specs.Code.{stmt_code}
 use Rattle.job_compiler.specs.declared.labels.Label.{Label}
 use Rattle.job_compiler.specs.Operations.{operation_of, resumed}
 use Rattle.job_compiler.proofs.Values.{FitsIf, value_fits}
-use Rattle.job_compiler.proofs.Steps.{AreAllKept, Agree, at, HasAt, has_front, has_back, Comes, comes_on, fails_on, stays, one_step, write, WritesIf, BringsIf, value_runs, operand_runs, operand_low}
-use Rattle.job_compiler.proofs.Steps.{above_high, still}
+use Rattle.job_compiler.proofs.Steps.{AreAllKept, Agree, at, HasAt, has_front, has_back, Comes, comes_on, fails_on, stays, one_step, write, WritesIf, BringsIf, BringsBothIf, value_runs, operand_runs, both_run}
 use Rattle.job_compiler.proofs.Conditions.{JumpsIf, test_runs, test_length}
 use Rattle.job_compiler.proofs.Stands.{over_length, stmt_length, agree_written, agree_set, agree_put, put_long, Reaches, IsLoop, IsAt, past_place, next_place, Stands, Stops, Follows, continues}
 use Rattle.job_compiler.proofs.Stands.{resumes_at}
@@ -247,31 +246,29 @@ module _ (procs : List (List Instr)) (slot width p size n ret : ℕ) where
 
     module _ (f : Frame) (vars : List ℤ) (rest : List Todo) (m : Maker) (pr : ℕ) (ea eb : Expr) (s : Stood f (pt vars (Do (Make m pr ea eb) ∷ rest))) where
       abbrev q1 : ℕ
-      q1 = s.q + length (operand_code ea n)
+      q1 = s.q + length (both_code ea eb n)
 
-      abbrev q2 : ℕ
-      q2 = q1 + length (operand_code eb (above ea n))
+      abbrev ra : ℕ
+      ra = left_of ea eb n
 
-      made : (oa ob : Option ℤ) → BringsIf procs slot width p size s.q q1 s.regs (operand ea n) n oa
-          → ((regs' : List ℤ) → length regs' ≡ size → AreAllKept n s.regs regs' → BringsIf procs slot width p size q1 q2 regs' (operand eb (above ea n)) (above ea n) ob)
-          → slice_get (slice_index_or procs p []) q2 ≡ Some (make_instr m pr (operand ea n) (operand eb (above ea n))) → operand ea n < above ea n → n ≤ above ea n
+      abbrev rb : ℕ
+      rb = right_of ea eb n
+
+      made : (oa ob : Option ℤ) → BringsBothIf procs slot width p size s.q q1 s.regs ra rb n oa ob → slice_get (slice_index_or procs p []) q1 ≡ Some (make_instr m pr ra rb)
           → Goes_on f (pt vars (Do (Make m pr ea eb) ∷ rest)) s (with_value oa (λ x. with_value ob (λ y. Does (made_by m pr x y))))
-      made None ob first second here low high = fails_on procs slot width p size _ _ s.comes first
-      made (Some x) None first second here low high = fails_on procs slot width p size _ _ (comes_on procs slot width p size _ _ _ s.comes first.comes) (second first.regs' first.long first.kept)
-      made (Some x) (Some y) first second here low high =
+      made None ob both here = fails_on procs slot width p size _ _ s.comes both
+      made (Some x) None both here = fails_on procs slot width p size _ _ s.comes both
+      made (Some x) (Some y) both here =
           let h = s.is_at in
-          let b = second first.regs' first.long first.kept in
-          let ra = operand ea n in
-          let rb = operand eb (above ea n) in
-          let agree : Agree size n vars b.regs' = record { long = b.long; same = λ z lz. b.kept z (omega (arith, lz, high)) ∙ first.kept z lz ∙ s.agree.same z lz; fit = s.agree.fit } in
+          let agree : Agree size n vars both.regs' = record { long = both.long; same = λ z lz. both.kept z lz ∙ s.agree.same z lz; fit = s.agree.fit } in
           record {
-            last = at procs slot width p size q2 b.regs';
-            comes = comes_on procs slot width p size _ _ _ s.comes (comes_on procs slot width p size _ _ _ first.comes b.comes);
+            last = at procs slot width p size q1 both.regs';
+            comes = comes_on procs slot width p size _ _ _ s.comes both.comes;
             instr = make_instr m pr ra rb;
             there = here;
             shared = make_shared m pr ra rb _;
-            asks = make_asks m pr ra rb q2 b.regs' x y (b.kept ra low ∙ first.value) b.value;
-            resumes = λ last z w fz fw. make_resumes m pr ea eb ra rb vars rest s.labels q2 (s.q + (length (operand_code ea n) + length (operand_code eb (above ea n)) + 1)) h.2 b.regs' here
+            asks = make_asks m pr ra rb q1 both.regs' x y both.left both.right;
+            resumes = λ last z w fz fw. make_resumes m pr ea eb ra rb vars rest s.labels q1 (s.q + (length (both_code ea eb n) + 1)) h.2 both.regs' here
                 (omega arith) h.3 h.4 agree s.long h.0.0 z w fz;
           }
 
@@ -352,16 +349,10 @@ module _ (procs : List (List Instr)) (slot width p size n ret : ℕ) where
           (operand_runs procs slot width p size valid low_slot low_width e n n s.q vars s.regs h.0 (omega arith) s.agree (has_front procs slot width p size s.q ce _ h.1))
       follows_stmt (Make m pr a b) f vars rest s =
           let h = s.is_at in
-          let ca = operand_code a n in
-          let t2 = above a n in
-          let cb = operand_code b t2 in
-          let high = above_high procs slot width p size valid low_slot low_width n a in
-          let hb = has_back procs slot width p size s.q ca _ h.1 in
+          let code = both_code a b n in
           made f vars rest m pr a b s (value_of a slot width vars) (value_of b slot width vars)
-          (operand_runs procs slot width p size valid low_slot low_width a n n s.q vars s.regs h.0.1 (omega arith) s.agree (has_front procs slot width p size s.q ca _ h.1))
-          (λ regs' long kept. operand_runs procs slot width p size valid low_slot low_width b n t2 (s.q + length ca) vars regs' h.0.2 high
-          (still procs slot width p size valid low_slot low_width n n vars s.regs regs' (omega arith) s.agree long kept) (has_front procs slot width p size _ cb _ hb))
-          (has_back procs slot width p size _ cb _ hb).0 (operand_low procs slot width p size valid low_slot low_width n n a h.0.1 (omega arith)) high
+          (both_run procs slot width p size valid low_slot low_width a b n n s.q vars s.regs h.0.1 h.0.2 (omega arith) s.agree (has_front procs slot width p size s.q code _ h.1))
+          (has_back procs slot width p size s.q code _ h.1).0
       follows_stmt (Wait d e g) f vars rest s =
           let h = s.is_at in
           let low = valid s.q _ h.1.0 in

@@ -15,7 +15,7 @@ use Rattle.source_language.specs.declared.syntax.Stmt.{Stmt}
 use Rattle.source_language.specs.declared.syntax.Stmt.TheVariants.{Skip, Then', Assign, If', Loop', Repeat', Break, Continue, Return, Make, Wait, Cancel, Read, Store}
 use Rattle.source_language.specs.Meaning.{Operation, Todo, Do, Turn, Next, Point, Act, Goes, Divides, Does, next_turn, past_loop, put_into, answered}
 use Rattle.job_compiler.specs.Within.{IsTestWithin, IsStmtWithin, IsOneWithin}
-use Rattle.job_compiler.specs.Code.{operand, operand_code, above, make_instr, over_size, over_code, test_size, test_code, stmt_size, loop_test, loop_end, loop_label, after_of, next_of, loop_code}
+use Rattle.job_compiler.specs.Code.{operand, operand_code, both_code, left_of, right_of, make_instr, over_size, over_code, test_size, test_code, stmt_size, loop_test, loop_end, loop_label, after_of, next_of, loop_code}
 use Rattle.job_compiler.specs.Code.{register_for, stmt_code}
 use Rattle.job_compiler.specs.declared.labels.Label.{Label}
 use Rattle.job_compiler.specs.Operations.{operation_of, resumed}
@@ -63,11 +63,7 @@ stmt_length (Repeat' c p b q s) t at labels ret =
 stmt_length (Break k) t at labels ret = refl
 stmt_length (Continue k) t at labels ret = refl
 stmt_length (Return e) t at labels ret = length-append (operand_code e t) (instr.Ret (operand e t) ∷ [])
-stmt_length (Make m p a b) t at labels ret =
-    let ca = operand_code a t in
-    let cb = operand_code b (above a t) in
-    let i = make_instr m p (operand a t) (operand b (above a t)) in
-    omega (arith, length-append ca (cb ++ i ∷ []), length-append cb (i ∷ []))
+stmt_length (Make m p a b) t at labels ret = length-append (both_code a b t) (make_instr m p (left_of a b t) (right_of a b t) ∷ [])
 stmt_length (Wait d e g) t at labels ret = refl
 stmt_length (Cancel g) t at labels ret = refl
 stmt_length (Read d q) t at labels ret = refl

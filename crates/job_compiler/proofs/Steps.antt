@@ -1,5 +1,6 @@
 -- How a frame of a procedure goes on, and what the code of an expression and of a condition does.
-use Rattle.std.proofs.Common.{◌≡◌, ◌≢◌, ℕ, zero, suc, ◌+◌, ◌<◌, ◌≤◌, ◌^◌, ℤ, pos, negsuc, List, [], ◌∷◌, ◌++◌, length, get_or, Option, Some, None, refl, ap, subst, ◌∙◌, arith, length-append}
+use Rattle.std.proofs.Common.{◌≡◌, ◌≢◌, ℕ, zero, suc, ◌+◌, ◌<◌, ◌≤◌, ◌^◌, ℤ, pos, negsuc, Bool, true, false, List, [], ◌∷◌, ◌++◌, length, get_or, Option, Some, None, refl, ap, subst, ◌∙◌, arith}
+use Rattle.std.proofs.Common.{length-append}
 use Rattle.std.proofs.Common.{length-set, get_or-set_same, get_or-set_other, FitsSigned}
 use Rattle.std.specs.Prelude.{slice_get, slice_set, slice_index_or, option_and_then}
 use Rattle.std.specs.Int.{int_bit_or, w64}
@@ -16,7 +17,7 @@ use Rattle.source_language.specs.declared.syntax.Expr.{Expr}
 use Rattle.source_language.specs.declared.syntax.Expr.TheVariants.{Number, Variable, Slot, Width, Two'}
 use Rattle.source_language.specs.Meaning.{result_of, on_both, value_of}
 use Rattle.job_compiler.specs.Within.{IsWithin}
-use Rattle.job_compiler.specs.Code.{op_instr, operand, above, value_code, operand_code}
+use Rattle.job_compiler.specs.Code.{op_instr, operand, above, is_right_first, left_free, right_free, in_order, value_code, operand_code, both_code, left_of, right_of}
 use Rattle.job_compiler.proofs.Numbers.{or_same}
 
 -- registers below t, but for one, are the same
@@ -116,6 +117,27 @@ module _ (procs : List (List Instr)) (slot width p size : ℕ) where
   BringsIf pc pc' regs r t None = Fails (at pc regs)
   BringsIf pc pc' regs r t (Some v) = Brings pc pc' regs r t v
 
+  -- the code leads from a place to another one, where two values are in registers
+  pub record BringsBoth (pc pc' : ℕ) (regs : List ℤ) (ra rb t : ℕ) (x y : ℤ) : Type 0 where
+    pub regs' : List ℤ
+    pub comes : Comes (at pc regs) (at pc' regs')
+    pub long : length regs' ≡ size
+    pub left : get_or regs' ra (pos 0) ≡ x
+    pub right : get_or regs' rb (pos 0) ≡ y
+    pub kept : AreAllKept t regs regs'
+
+  abbrev pub BringsBothIf : (pc pc' : ℕ) (regs : List ℤ) (ra rb t : ℕ) → Option ℤ → Option ℤ → Type 0
+  BringsBothIf pc pc' regs ra rb t None ob = Fails (at pc regs)
+  BringsBothIf pc pc' regs ra rb t (Some x) None = Fails (at pc regs)
+  BringsBothIf pc pc' regs ra rb t (Some x) (Some y) = BringsBoth pc pc' regs ra rb t x y
+
+  -- the same, with the other one as the left one
+  exchanged_both : (pc pc' : ℕ) (regs : List ℤ) (ra rb t : ℕ) (oa ob : Option ℤ) → BringsBothIf pc pc' regs rb ra t ob oa → BringsBothIf pc pc' regs ra rb t oa ob
+  exchanged_both pc pc' regs ra rb t None None b = b
+  exchanged_both pc pc' regs ra rb t None (Some y) b = b
+  exchanged_both pc pc' regs ra rb t (Some x) None b = b
+  exchanged_both pc pc' regs ra rb t (Some x) (Some y) b = record { regs' = b.regs'; comes = b.comes; long = b.long; left = b.right; right = b.left; kept = b.kept }
+
   -- one instruction that writes
   abbrev pub write : (pc d t : ℕ) (regs : List ℤ) (i : Instr) (v : ℤ) → slice_get code pc ≡ Some i → effect i slot width (at pc regs) ≡ Moves (write_and_step (at pc regs) d v) → d < size
       → length regs ≡ size → Writes pc (pc + 1) regs d t v
@@ -186,38 +208,72 @@ module _ (procs : List (List Instr)) (slot width p size : ℕ) where
     pub still : (n t : ℕ) (vars regs regs' : List ℤ) → n ≤ t → Agree size n vars regs → length regs' ≡ size → AreAllKept t regs regs' → Agree size n vars regs'
     still n t vars regs regs' le agree long kept = record { long = long; same = λ x low. kept x (omega (arith, low, le)) ∙ agree.same x low; fit = agree.fit }
 
+    -- one operand, and then another one
+    one_by_one : (ca cb : List Instr) (oa ob : Option ℤ) (ra rb pc t t2 : ℕ) (regs : List ℤ) → ra < t2 → t ≤ t2 → BringsIf pc (pc + length ca) regs ra t oa
+        → ((regs' : List ℤ) → length regs' ≡ size → AreAllKept t regs regs' → BringsIf (pc + length ca) (pc + length ca + length cb) regs' rb t2 ob)
+        → BringsBothIf pc (pc + length (ca ++ cb)) regs ra rb t oa ob
+    one_by_one ca cb None ob ra rb pc t t2 regs low high first second = first
+    one_by_one ca cb (Some x) None ra rb pc t t2 regs low high first second = fails_on _ _ first.comes (second first.regs' first.long first.kept)
+    one_by_one ca cb (Some x) (Some y) ra rb pc t t2 regs low high first second =
+        let next : Brings (pc + length ca) (pc + length ca + length cb) first.regs' rb t2 y = second first.regs' first.long first.kept in
+        let len : pc + length ca + length cb ≡ pc + length (ca ++ cb) = omega (arith, length-append ca cb) in
+        subst (λ q. BringsBoth pc q regs ra rb t x y) len (record {
+          regs' = next.regs';
+          comes = comes_on _ _ _ first.comes next.comes;
+          long = next.long;
+          left = next.kept ra low ∙ first.value;
+          right = next.value;
+          kept = λ r below. next.kept r (omega (arith, below, high)) ∙ first.kept r below;
+        })
+
+    -- an operand's code brings its value
+    abbrev Runs : (n : ℕ) (vars : List ℤ) → Expr → Type 0
+    Runs n vars e = (t pc : ℕ) (regs : List ℤ) → n ≤ t → Agree size n vars regs → HasAt pc (operand_code e t)
+        → BringsIf pc (pc + length (operand_code e t)) regs (operand e t) t (value_of e slot width vars)
+
+    -- two operands, whichever is first
+    in_order_run : (right_first : Bool) (a b : Expr) (n t pc : ℕ) (vars regs : List ℤ) → IsWithin n a → IsWithin n b → n ≤ t → Agree size n vars regs → Runs n vars a → Runs n vars b
+        → HasAt pc (in_order right_first (operand_code a (left_free right_first b t)) (operand_code b (right_free right_first a t)))
+        → BringsBothIf pc (pc + length (in_order right_first (operand_code a (left_free right_first b t)) (operand_code b (right_free right_first a t)))) regs
+        (operand a (left_free right_first b t)) (operand b (right_free right_first a t)) t (value_of a slot width vars) (value_of b slot width vars)
+    in_order_run false a b n t pc vars regs ha hb le agree runs_a runs_b has =
+        let ca = operand_code a t in
+        let t2 = above a t in
+        let high = above_high t a in
+        one_by_one ca (operand_code b t2) (value_of a slot width vars) (value_of b slot width vars) (operand a t) (operand b t2) pc t t2 regs (operand_low n t a ha le) high
+        (runs_a t pc regs le agree (has_front pc ca _ has))
+        (λ regs' long kept. runs_b t2 (pc + length ca) regs' (omega (arith, high, le)) (still n t vars regs regs' le agree long kept) (has_back pc ca _ has))
+    in_order_run true a b n t pc vars regs ha hb le agree runs_a runs_b has =
+        let cb = operand_code b t in
+        let t2 = above b t in
+        let high = above_high t b in
+        exchanged_both pc _ regs (operand a t2) (operand b t) t (value_of a slot width vars) (value_of b slot width vars)
+        (one_by_one cb (operand_code a t2) (value_of b slot width vars) (value_of a slot width vars) (operand b t) (operand a t2) pc t t2 regs (operand_low n t b hb le) high
+        (runs_b t pc regs le agree (has_front pc cb _ has))
+        (λ regs' long kept. runs_a t2 (pc + length cb) regs' (omega (arith, high, le)) (still n t vars regs regs' le agree long kept) (has_back pc cb _ has)))
+
     -- two operands, and an instruction that writes what comes of both
-    two_runs : (f : ℤ → ℤ → Option ℤ) (i : Instr) (ca cb : List Instr) (oa ob : Option ℤ) (d ra rb pc t t2 : ℕ) (regs : List ℤ) → HasAt pc (ca ++ (cb ++ i ∷ [])) → ra < t2 → t ≤ t2
-        → BringsIf pc (pc + length ca) regs ra t oa → ((regs' : List ℤ) → length regs' ≡ size → AreAllKept t regs regs' → BringsIf (pc + length ca) (pc + length ca + length cb) regs' rb t2 ob)
+    two_runs : (f : ℤ → ℤ → Option ℤ) (i : Instr) (code : List Instr) (oa ob : Option ℤ) (d ra rb pc t : ℕ) (regs : List ℤ) → HasAt pc (code ++ i ∷ [])
+        → BringsBothIf pc (pc + length code) regs ra rb t oa ob
         → ((q : ℕ) (regs' : List ℤ) (x y : ℤ) → HasAt q (i ∷ []) → get_or regs' ra (pos 0) ≡ x → get_or regs' rb (pos 0) ≡ y → length regs' ≡ size → WritesIf q (q + 1) regs' d t (f x y))
-        → WritesIf pc (pc + length (ca ++ (cb ++ i ∷ []))) regs d t (on_both f oa ob)
-    two_runs f i ca cb None ob d ra rb pc t t2 regs has low high first second does = first
-    two_runs f i ca cb (Some x) None d ra rb pc t t2 regs has low high first second does =
-        fails_on _ _ first.comes (second first.regs' first.long first.kept)
-    two_runs f i ca cb (Some x) (Some y) d ra rb pc t t2 regs has low high first second does =
-        last (f x y) (does (pc + length ca + length cb) next.regs' x y here (next.kept ra low ∙ first.value) next.value next.long)
+        → WritesIf pc (pc + length (code ++ i ∷ [])) regs d t (on_both f oa ob)
+    two_runs f i code None ob d ra rb pc t regs has both does = both
+    two_runs f i code (Some x) None d ra rb pc t regs has both does = both
+    two_runs f i code (Some x) (Some y) d ra rb pc t regs has both does =
+        last (f x y) (does (pc + length code) both.regs' x y (has_back pc code (i ∷ []) has) both.left both.right both.long)
       where
-        next : Brings (pc + length ca) (pc + length ca + length cb) first.regs' rb t2 y
-        next = second first.regs' first.long first.kept
+        len : pc + length code + 1 ≡ pc + length (code ++ i ∷ [])
+        len = omega (arith, length-append code (i ∷ []))
 
-        here : HasAt (pc + length ca + length cb) (i ∷ [])
-        here = has_back (pc + length ca) cb (i ∷ []) (has_back pc ca _ has)
-
-        len : pc + length ca + length cb + 1 ≡ pc + length (ca ++ (cb ++ i ∷ []))
-        len = omega (arith, length-append ca (cb ++ i ∷ []), length-append cb (i ∷ []))
-
-        both : Comes (at pc regs) (at (pc + length ca + length cb) next.regs')
-        both = comes_on _ _ _ first.comes next.comes
-
-        last : (o : Option ℤ) → WritesIf (pc + length ca + length cb) (pc + length ca + length cb + 1) next.regs' d t o → WritesIf pc (pc + length (ca ++ (cb ++ i ∷ []))) regs d t o
-        last None w = fails_on _ _ both w
+        last : (o : Option ℤ) → WritesIf (pc + length code) (pc + length code + 1) both.regs' d t o → WritesIf pc (pc + length (code ++ i ∷ [])) regs d t o
+        last None w = fails_on _ _ both.comes w
         last (Some v) w = subst (λ q. Writes pc q regs d t v) len (record {
           regs' = w.regs';
-          comes = comes_on _ _ _ both w.comes;
+          comes = comes_on _ _ _ both.comes w.comes;
           some = omega (arith, w.some);
           long = w.long;
           value = w.value;
-          kept = λ r below other. w.kept r below other ∙ next.kept r (omega (arith, below, high)) ∙ first.kept r below;
+          kept = λ r below other. w.kept r below other ∙ both.kept r below;
         })
 
     pub value_runs : (e : Expr) (n d t pc : ℕ) (vars regs : List ℤ) → IsWithin n e → n ≤ t → Agree size n vars regs → HasAt pc (value_code e d t)
@@ -228,36 +284,36 @@ module _ (procs : List (List Instr)) (slot width p size : ℕ) where
     value_runs (Variable x) n d t pc vars regs h le agree has = write pc d t regs (instr.Or d x x) (get_or vars x (pos 0)) has.0
         (ap (λ z. Moves (write_and_step (at pc regs) d z)) (ap (λ z. int_bit_or w64 z z) (agree.same x h) ∙ or_same (get_or vars x (pos 0)) (agree.fit x))) (valid pc _ has.0).0 agree.long
     value_runs (Two' op p a q b) n d t pc vars regs h le agree has =
-        let ca = operand_code a t in
-        let t2 = above a t in
-        let cb = operand_code b t2 in
-        let high = above_high t a in
-        let le2 : n ≤ t2 = omega (arith, high, le) in
-        two_runs (result_of op) (op_instr op d (operand a t) (operand b t2)) ca cb (value_of a slot width vars) (value_of b slot width vars) d (operand a t) (operand b t2) pc t t2 regs has
-        (operand_low n t a h.0 le) high
-        (brought_runs n pc t a vars regs h.0 le agree (has_front pc ca _ has) (value_runs a n t t pc vars regs h.0 le agree))
-        (λ regs' long kept.
-        let agree' = still n t vars regs regs' le agree long kept in
-        brought_runs n (pc + length ca) t2 b vars regs' h.1 le2 agree' (has_front _ cb _ (has_back pc ca _ has)) (value_runs b n t2 t2 (pc + length ca) vars regs' h.1 le2 agree'))
-        (λ q regs' x y there ex ey long. op_runs op d (operand a t) (operand b t2) q t regs' x y there ex ey long)
+        let ra = left_of a b t in
+        let rb = right_of a b t in
+        let code = both_code a b t in
+        two_runs (result_of op) (op_instr op d ra rb) code (value_of a slot width vars) (value_of b slot width vars) d ra rb pc t regs has
+        (in_order_run (is_right_first a b) a b n t pc vars regs h.0 h.1 le agree
+        (λ t' pc' regs' le' agree' has'. brought_runs n pc' t' a vars regs' h.0 le' agree' has' (value_runs a n t' t' pc' vars regs' h.0 le' agree'))
+        (λ t' pc' regs' le' agree' has'. brought_runs n pc' t' b vars regs' h.1 le' agree' has' (value_runs b n t' t' pc' vars regs' h.1 le' agree'))
+        (has_front pc code _ has))
+        (λ q regs' x y there ex ey long. op_runs op d ra rb q t regs' x y there ex ey long)
 
     pub operand_runs : (e : Expr) (n t pc : ℕ) (vars regs : List ℤ) → IsWithin n e → n ≤ t → Agree size n vars regs → HasAt pc (operand_code e t)
         → BringsIf pc (pc + length (operand_code e t)) regs (operand e t) t (value_of e slot width vars)
     operand_runs e n t pc vars regs h le agree has = brought_runs n pc t e vars regs h le agree has (value_runs e n t t pc vars regs h le agree)
 
+    pub both_run : (a b : Expr) (n t pc : ℕ) (vars regs : List ℤ) → IsWithin n a → IsWithin n b → n ≤ t → Agree size n vars regs → HasAt pc (both_code a b t)
+        → BringsBothIf pc (pc + length (both_code a b t)) regs (left_of a b t) (right_of a b t) t (value_of a slot width vars) (value_of b slot width vars)
+    both_run a b n t pc vars regs ha hb le agree has = in_order_run (is_right_first a b) a b n t pc vars regs ha hb le agree
+        (λ t' pc' regs' le' agree' has'. operand_runs a n t' pc' vars regs' ha le' agree' has')
+        (λ t' pc' regs' le' agree' has'. operand_runs b n t' pc' vars regs' hb le' agree' has') has
+
     -- both operands, and an operator of them exchanged
     pub exchanged_runs : (o : Operator) (a b : Expr) (n t pc : ℕ) (vars regs : List ℤ) → IsWithin n a → IsWithin n b → n ≤ t → Agree size n vars regs
-        → HasAt pc (operand_code a t ++ (operand_code b (above a t) ++ op_instr o t (operand b (above a t)) (operand a t) ∷ []))
-        → BringsIf pc (pc + length (operand_code a t ++ (operand_code b (above a t) ++ op_instr o t (operand b (above a t)) (operand a t) ∷ []))) regs t t
+        → HasAt pc (both_code a b t ++ op_instr o t (right_of a b t) (left_of a b t) ∷ [])
+        → BringsIf pc (pc + length (both_code a b t ++ op_instr o t (right_of a b t) (left_of a b t) ∷ [])) regs t t
         (on_both (λ x y. result_of o y x) (value_of a slot width vars) (value_of b slot width vars))
     exchanged_runs o a b n t pc vars regs ha hb le agree has =
-        let ca = operand_code a t in
-        let t2 = above a t in
-        let cb = operand_code b t2 in
-        let high = above_high t a in
+        let ra = left_of a b t in
+        let rb = right_of a b t in
+        let code = both_code a b t in
         written_brings_if pc _ t regs (on_both (λ x y. result_of o y x) (value_of a slot width vars) (value_of b slot width vars))
-        (two_runs (λ x y. result_of o y x) (op_instr o t (operand b t2) (operand a t)) ca cb (value_of a slot width vars) (value_of b slot width vars) t (operand a t) (operand b t2) pc t t2 regs has
-        (operand_low n t a ha le) high
-        (operand_runs a n t pc vars regs ha le agree (has_front pc ca _ has))
-        (λ regs' long kept. operand_runs b n t2 (pc + length ca) vars regs' hb (omega (arith, high, le)) (still n t vars regs regs' le agree long kept) (has_front _ cb _ (has_back pc ca _ has)))
-        (λ q regs' x y there ex ey long. op_runs o t (operand b t2) (operand a t) q t regs' y x there ey ex long))
+        (two_runs (λ x y. result_of o y x) (op_instr o t rb ra) code (value_of a slot width vars) (value_of b slot width vars) t ra rb pc t regs has
+        (both_run a b n t pc vars regs ha hb le agree (has_front pc code _ has))
+        (λ q regs' x y there ex ey long. op_runs o t rb ra q t regs' y x there ey ex long))

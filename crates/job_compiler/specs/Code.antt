@@ -1,5 +1,5 @@
 -- The instructions of a function. Variables are registers, and values on the way are in those from `free` on.
-use Rattle.std.specs.Prelude.{ℕ, ◌+◌, nat_lt, pos, Bool, true, false, not, if◌then◌else◌, List, [], ◌∷◌, ◌++◌, length, Option, Some, None, slice_get}
+use Rattle.std.specs.Prelude.{ℕ, ◌+◌, ◌==◌, nat_lt, pos, Bool, true, false, not, if◌then◌else◌, List, [], ◌∷◌, ◌++◌, length, Option, Some, None, slice_get}
 use Rattle.job_language.specs.declared.instructions.Instr.{Instr}
 use Rattle.job_language.specs.declared.instructions.Instr.TheVariants as instr
 use Rattle.source_language.specs.declared.syntax.Operator.{Operator}
@@ -17,6 +17,7 @@ use Rattle.source_language.specs.declared.syntax.Stmt.TheVariants.{Skip, Then', 
 use Rattle.source_language.specs.declared.syntax.Function.{Function}
 use Rattle.source_language.specs.Meaning.{is_nought}
 use Rattle.job_compiler.specs.declared.labels.Label.{Label}
+use Rattle.job_compiler.specs.declared.registers.TheConstants.{VIRTUAL_REGISTERS}
 
 -- the instruction of an operator
 abbrev pub op_instr : Operator → (d a b : ℕ) → Instr
@@ -49,16 +50,63 @@ abbrev pub brought : Expr → List Instr → List Instr
 brought (Variable x) code = []
 brought e code = code
 
+-- one more, but not more than there are
+abbrev pub one_more : ℕ → ℕ
+one_more x = if nat_lt x VIRTUAL_REGISTERS then x + 1 else x
+
+-- how many registers two operands take that take so many, if the one that takes more is first
+abbrev pub need_of_both : (left right : ℕ) → ℕ
+need_of_both x y = if x == y then one_more x else (if nat_lt x y then y else x)
+
+-- how many registers an operand takes, of those from the first free one on
+abbrev pub need : Expr → ℕ
+need (Number n) = 1
+need (Variable x) = 0
+need Slot = 1
+need Width = 1
+need (Two' op p a q b) = need_of_both (need a) (need b)
+
+-- Of two operands the one that takes more registers comes first.
+abbrev pub is_right_first : (left right : Expr) → Bool
+is_right_first a b = nat_lt (need a) (need b)
+
+-- the first free register for the left one, and for the right one
+abbrev pub left_free : (right_first : Bool) → (right : Expr) → (free : ℕ) → ℕ
+left_free true b t = above b t
+left_free false b t = t
+
+abbrev pub right_free : (right_first : Bool) → (left : Expr) → (free : ℕ) → ℕ
+right_free true a t = t
+right_free false a t = above a t
+
+abbrev pub in_order : (right_first : Bool) → (left right : List Instr) → List Instr
+in_order true left right = right ++ left
+in_order false left right = left ++ right
+
 abbrev pub value_code : Expr → (into free : ℕ) → List Instr
 value_code (Number n) d t = instr.Set d n ∷ []
 value_code (Variable x) d t = instr.Or d x x ∷ []
 value_code Slot d t = instr.Slot d ∷ []
 value_code Width d t = instr.Width d ∷ []
 value_code (Two' op p a q b) d t =
-    brought a (value_code a t t) ++ (brought b (value_code b (above a t) (above a t)) ++ op_instr op d (operand a t) (operand b (above a t)) ∷ [])
+    let s = is_right_first a b in
+    let ta = left_free s b t in
+    let tb = right_free s a t in
+    in_order s (brought a (value_code a ta ta)) (brought b (value_code b tb tb)) ++ op_instr op d (operand a ta) (operand b tb) ∷ []
 
 abbrev pub operand_code : Expr → (free : ℕ) → List Instr
 operand_code e t = brought e (value_code e t t)
+
+-- two operands, and the registers in which they then are
+abbrev pub both_code : (left right : Expr) → (free : ℕ) → List Instr
+both_code a b t =
+    let s = is_right_first a b in in_order s (operand_code a (left_free s b t)) (operand_code b (right_free s a t))
+
+abbrev pub left_of : (left right : Expr) → (free : ℕ) → ℕ
+left_of a b t = operand a (left_free (is_right_first a b) b t)
+
+abbrev pub right_of : (left right : Expr) → (free : ℕ) → ℕ
+right_of a b t = operand b (right_free (is_right_first a b) a t)
 
 -- the register of a number that goes to a variable, or nowhere
 abbrev pub register_for : Option ℕ → (free : ℕ) → ℕ
@@ -80,7 +128,7 @@ opposed e = None
 
 -- both operands of an expression, exchanged, with another operator, into the first free register
 abbrev pub opposed_code : Operator → Expr → (free : ℕ) → List Instr
-opposed_code o (Two' op p a q b) t = operand_code a t ++ (operand_code b (above a t) ++ op_instr o t (operand b (above a t)) (operand a t) ∷ [])
+opposed_code o (Two' op p a q b) t = both_code a b t ++ op_instr o t (right_of a b t) (left_of a b t) ∷ []
 opposed_code o e t = operand_code e t
 
 -- Jumps if an expression is 0, or if it is not: with its opposite, if it has one, and else past another jump.
@@ -132,7 +180,7 @@ make_instr Post p a b = instr.Post p a b
 make_instr (Isolate d) p a b = instr.Isolate d p a b
 
 abbrev pub make_code : Maker → (p : ℕ) → (a b : Expr) → (free : ℕ) → List Instr
-make_code m p a b t = operand_code a t ++ (operand_code b (above a t) ++ make_instr m p (operand a t) (operand b (above a t)) ∷ [])
+make_code m p a b t = both_code a b t ++ make_instr m p (left_of a b t) (right_of a b t) ∷ []
 
 abbrev pub read_instr : (d : ℕ) → Question → Instr
 read_instr d Cancelled = instr.Ask d
@@ -157,7 +205,7 @@ stmt_size (Repeat' c p b q s) t = stmt_size b t + stmt_size s t + test_size c tr
 stmt_size (Break k) t = 1
 stmt_size (Continue k) t = 1
 stmt_size (Return e) t = length (operand_code e t) + 1
-stmt_size (Make m p a b) t = length (operand_code a t) + length (operand_code b (above a t)) + 1
+stmt_size (Make m p a b) t = length (both_code a b t) + 1
 stmt_size (Wait d e g) t = 1
 stmt_size (Cancel g) t = 1
 stmt_size (Read d q) t = 1

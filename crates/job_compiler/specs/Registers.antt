@@ -10,7 +10,7 @@ use Rattle.source_language.specs.declared.syntax.Maker.TheVariants.{Spawn, Post,
 use Rattle.source_language.specs.declared.syntax.Stmt.{Stmt}
 use Rattle.source_language.specs.declared.syntax.Stmt.TheVariants.{Skip, Then', Assign, If', Loop', Repeat', Break, Continue, Return, Make, Wait, Cancel, Read, Store}
 use Rattle.source_language.specs.declared.syntax.Function.{Function}
-use Rattle.job_compiler.specs.Code.{above, compared, register_for}
+use Rattle.job_compiler.specs.Code.{is_right_first, left_free, right_free, compared, register_for}
 
 -- an operand, and what its code writes
 abbrev pub IsOperandLow : (most : ℕ) → Expr → (free : ℕ) → Type 0
@@ -18,7 +18,10 @@ IsOperandLow m (Number z) t = t < m
 IsOperandLow m (Variable x) t = x < m
 IsOperandLow m Slot t = t < m
 IsOperandLow m Width t = t < m
-IsOperandLow m (Two' op p a q b) t = IsOperandLow m a t × IsOperandLow m b (above a t) × (t < m)
+IsOperandLow m (Two' op p a q b) t = let s = is_right_first a b in IsOperandLow m a (left_free s b t) × IsOperandLow m b (right_free s a t) × (t < m)
+
+abbrev pub AreBothLow : (most : ℕ) → (left right : Expr) → (free : ℕ) → Type 0
+AreBothLow m a b t = let s = is_right_first a b in IsOperandLow m a (left_free s b t) × IsOperandLow m b (right_free s a t)
 
 -- a value that goes to a variable that is there
 abbrev pub IsValueLow : (most : ℕ) → Expr → (free : ℕ) → Type 0
@@ -26,7 +29,7 @@ IsValueLow m (Number z) t = Unit {0}
 IsValueLow m (Variable x) t = x < m
 IsValueLow m Slot t = Unit {0}
 IsValueLow m Width t = Unit {0}
-IsValueLow m (Two' op p a q b) t = IsOperandLow m a t × IsOperandLow m b (above a t)
+IsValueLow m (Two' op p a q b) t = AreBothLow m a b t
 
 -- an operand, or a value that goes to a variable
 abbrev pub IsWantedLow : (most : ℕ) → Expr → (into : Option ℕ) → (free : ℕ) → Type 0
@@ -59,7 +62,7 @@ IsStmtLow m (Repeat' c p b q s) t = IsTestLow m c t × IsStmtLow m b t × IsStmt
 IsStmtLow m (Break k) t = Unit {0}
 IsStmtLow m (Continue k) t = Unit {0}
 IsStmtLow m (Return e) t = IsOperandLow m e t
-IsStmtLow m (Make k p a b) t = IsMakerLow m k × IsOperandLow m a t × IsOperandLow m b (above a t)
+IsStmtLow m (Make k p a b) t = IsMakerLow m k × AreBothLow m a b t
 IsStmtLow m (Wait d e g) t = (register_for d t < m) × (register_for e t < m)
 IsStmtLow m (Cancel g) t = Unit {0}
 IsStmtLow m (Read d q) t = d < m

@@ -1,12 +1,12 @@
 // The code of a condition, and the jumps of a choice.
 ghost use Rattle.std.specs.Prelude.{◌≡◌, ◌+◌, ◌≤◌, [], ◌∷◌, ◌++◌, length, true, None, if◌then◌else◌};
-ghost use Rattle.job_compiler.specs.Code.{op_instr, above, operand, operand_code, opposed, jump_code, jumps, over_size, over_code, test_size, test_code};
+ghost use Rattle.job_compiler.specs.Code.{op_instr, operand, operand_code, both_code, left_of, right_of, opposed, jump_code, jumps, over_size, over_code, test_size, test_code};
 ghost use Rattle.job_language.specs.declared.instructions.Instr.TheVariants.{Jz};
-ghost use Rattle.job_compiler.specs.Registers.{IsOperandLow, IsTestLow};
+ghost use Rattle.job_compiler.specs.Registers.{IsOperandLow, AreBothLow, IsTestLow};
 
-use crate::emit::{emit_expr, operand};
+use crate::emit::{emit_both, emit_expr, operand};
 use crate::registers::VIRTUAL_REGISTERS;
-use crate::sizes::{MAX_BODY, above, compared, opposite, size_of_test};
+use crate::sizes::{MAX_BODY, compared, opposite, size_of_test};
 use crate::virtuals::{VirtualCode, VirtualInstr};
 use source_language::{Expr, Operator, Test};
 
@@ -70,21 +70,13 @@ fn emit_past(code: &mut VirtualCode, e: &Expr, to: u8, free: u8)
 
 // Two operands, and an operator of both, exchanged.
 fn emit_exchanged(code: &mut VirtualCode, op: Operator, a: &Expr, b: &Expr, free: u8)
-    requires first { IsOperandLow VIRTUAL_REGISTERS a.now free }
-    requires second { IsOperandLow VIRTUAL_REGISTERS b.now (above a.now free) }
-    requires room { length code.old + length (operand_code a.now free)
-        + length (operand_code b.now (above a.now free)) + 1 ≤ MAX_BODY }
-    ensures code { code.new ≡ code.old ++ (operand_code a.now free
-        ++ (operand_code b.now (above a.now free)
-        ++ op_instr op free (operand b.now (above a.now free)) (operand a.now free) ∷ [])) }
-    ensures len { length code.new ≡ length code.old + length (operand_code a.now free)
-        + length (operand_code b.now (above a.now free)) + 1 }
+    requires low { AreBothLow VIRTUAL_REGISTERS a.now b.now free }
+    requires room { length code.old + length (both_code a.now b.now free) + 1 ≤ MAX_BODY }
+    ensures code { code.new ≡ code.old ++ (both_code a.now b.now free
+        ++ op_instr op free (right_of a.now b.now free) (left_of a.now b.now free) ∷ []) }
+    ensures len { length code.new ≡ length code.old + length (both_code a.now b.now free) + 1 }
 {
-    emit_expr(code, a, None, free);
-    let second = above(a, free);
-    emit_expr(code, b, None, second);
-    let left = operand(a, free);
-    let right = operand(b, second);
+    let (left, right) = emit_both(code, a, b, free);
     code.put(VirtualInstr::Two(op, free, right, left));
 }
 

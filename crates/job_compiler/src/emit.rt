@@ -1,14 +1,15 @@
 // The code of a function.
 ghost use Rattle.std.specs.Prelude.{◌≡◌, ◌↔◌, ◌+◌, ◌<◌, ◌≤◌, ℕ, [], ◌∷◌, ◌++◌, length, None};
-ghost use Rattle.job_compiler.specs.Code.{above, operand, operand_code, register_for, make_code, make_instr, read_instr, stmt_size, stmt_code, function_code};
+ghost use Rattle.job_compiler.specs.Code.{operand, operand_code, both_code, left_of, right_of, register_for, make_code, make_instr, read_instr, stmt_size, stmt_code, function_code};
 ghost use Rattle.job_language.specs.declared.instructions.Instr.TheVariants.{Ret, Store};
 ghost use Rattle.job_compiler.specs.Labels.{labels_of};
-ghost use Rattle.job_compiler.specs.Registers.{IsWantedLow, IsOperandLow, IsStmtLow};
+ghost use Rattle.job_compiler.specs.Registers.{IsWantedLow, IsOperandLow, AreBothLow, IsStmtLow};
 ghost use Rattle.job_compiler.specs.Virtual.{instr_of};
 ghost use Rattle.job_compiler.specs.Wanted.{wanted_code};
 
 use crate::branches::{emit_over, emit_test};
 use crate::labels::{Labels, after_of, if_labels, loop_labels, next_of};
+use crate::needs::is_right_first;
 use crate::registers::VIRTUAL_REGISTERS;
 use crate::sizes::{MAX_BODY, above};
 use crate::virtuals::{VirtualCode, VirtualInstr};
@@ -54,6 +55,7 @@ fn written(into: Option<u8>, free: u8) -> u8
     }
 }
 
+#[cycle(expr)]
 pub(crate) fn emit_expr(code: &mut VirtualCode, e: &Expr, into: Option<u8>, free: u8)
     requires low { IsWantedLow VIRTUAL_REGISTERS e.now into free }
     requires room { length code.old + length (wanted_code e.now into free) ≤ MAX_BODY }
@@ -70,14 +72,33 @@ pub(crate) fn emit_expr(code: &mut VirtualCode, e: &Expr, into: Option<u8>, free
         Expr::Slot => code.put(VirtualInstr::Slot(written(into, free))),
         Expr::Width => code.put(VirtualInstr::Width(written(into, free))),
         Expr::Two(op, a, b) => {
-            emit_expr(code, a, None, free);
-            let second = above(a, free);
-            emit_expr(code, b, None, second);
-            let d = written(into, free);
-            let left = operand(a, free);
-            let right = operand(b, second);
-            code.put(VirtualInstr::Two(*op, d, left, right));
+            let (left, right) = emit_both(code, a, b, free);
+            code.put(VirtualInstr::Two(*op, written(into, free), left, right));
         }
+    }
+}
+
+/// Two operands, of which the one that takes more registers comes first; gives the registers in which
+/// they then are.
+#[cycle(expr)]
+pub(crate) fn emit_both(code: &mut VirtualCode, a: &Expr, b: &Expr, free: u8) -> (u8, u8)
+    requires low { AreBothLow VIRTUAL_REGISTERS a.now b.now free }
+    requires room { length code.old + length (both_code a.now b.now free) ≤ MAX_BODY }
+    ensures code { code.new ≡ code.old ++ both_code a.now b.now free }
+    ensures len { length code.new ≡ length code.old + length (both_code a.now b.now free) }
+    ensures left { result.0 ≡ left_of a.now b.now free }
+    ensures right { result.1 ≡ right_of a.now b.now free }
+{
+    if is_right_first(a, b) {
+        emit_expr(code, b, None, free);
+        let next = above(b, free);
+        emit_expr(code, a, None, next);
+        (operand(a, next), operand(b, free))
+    } else {
+        emit_expr(code, a, None, free);
+        let next = above(a, free);
+        emit_expr(code, b, None, next);
+        (operand(a, free), operand(b, next))
     }
 }
 
@@ -104,19 +125,12 @@ fn read_instr(d: u8, q: Question) -> VirtualInstr
 
 // Two operands, and an instruction that makes a row of them.
 fn emit_make(code: &mut VirtualCode, m: Maker, p: u8, a: &Expr, b: &Expr, free: u8)
-    requires first { IsOperandLow VIRTUAL_REGISTERS a.now free }
-    requires second { IsOperandLow VIRTUAL_REGISTERS b.now (above a.now free) }
-    requires room { length code.old + length (operand_code a.now free)
-        + length (operand_code b.now (above a.now free)) + 1 ≤ MAX_BODY }
+    requires low { AreBothLow VIRTUAL_REGISTERS a.now b.now free }
+    requires room { length code.old + length (both_code a.now b.now free) + 1 ≤ MAX_BODY }
     ensures code { code.new ≡ code.old ++ make_code m p a.now b.now free }
-    ensures len { length code.new ≡ length code.old + length (operand_code a.now free)
-        + length (operand_code b.now (above a.now free)) + 1 }
+    ensures len { length code.new ≡ length code.old + length (both_code a.now b.now free) + 1 }
 {
-    emit_expr(code, a, None, free);
-    let second = above(a, free);
-    emit_expr(code, b, None, second);
-    let left = operand(a, free);
-    let right = operand(b, second);
+    let (left, right) = emit_both(code, a, b, free);
     code.put(make_instr(m, p, left, right));
 }
 

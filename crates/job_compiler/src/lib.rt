@@ -10,6 +10,7 @@ mod labels;
 mod laws;
 mod memory;
 mod narrow;
+mod needs;
 mod programs;
 mod registers;
 mod sizes;

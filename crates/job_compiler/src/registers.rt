@@ -1,8 +1,9 @@
 // Whether the variables and the values on the way fit the virtual registers.
 ghost use Rattle.std.specs.Prelude.{IsTrue, ◌≡◌, ◌+◌, ◌<◌, ◌↔◌, SomeIff};
 ghost use Rattle.job_compiler.specs.Code.{above, register_for};
-ghost use Rattle.job_compiler.specs.Registers.{IsOperandLow, IsValueLow, IsTestLow, IsMakerLow, IsStmtLow};
+ghost use Rattle.job_compiler.specs.Registers.{IsOperandLow, AreBothLow, IsValueLow, IsTestLow, IsMakerLow, IsStmtLow};
 
+use crate::needs::is_right_first;
 use crate::sizes::compared;
 use source_language::{Expr, Maker, Stmt, Test};
 
@@ -24,6 +25,7 @@ fn next_low(free: u8) -> Option<u8>
 }
 
 /// The first free register beside an operand, if there are enough registers for it.
+#[cycle(low)]
 fn operand_low(e: &Expr, free: u8) -> Option<u8>
     ensures { SomeIff result (IsOperandLow VIRTUAL_REGISTERS e.now free) (above e.now free) }
 {
@@ -33,9 +35,11 @@ fn operand_low(e: &Expr, free: u8) -> Option<u8>
         Expr::Slot => next_low(free),
         Expr::Width => next_low(free),
         Expr::Two(_, a, b) => {
-            let second = operand_low(a, free)?;
-            operand_low(b, second)?;
-            next_low(free)
+            if both_low(a, b, free) {
+                next_low(free)
+            } else {
+                None
+            }
         }
     }
 }
@@ -48,7 +52,7 @@ fn value_low(e: &Expr, free: u8) -> bool
         Expr::Variable(x) => is_low(*x),
         Expr::Slot => true,
         Expr::Width => true,
-        Expr::Two(_, a, b) => two_low(a, b, free),
+        Expr::Two(_, a, b) => both_low(a, b, free),
     }
 }
 
@@ -76,13 +80,21 @@ fn maker_low(m: Maker) -> bool
     }
 }
 
-fn two_low(a: &Expr, b: &Expr, free: u8) -> bool
-    ensures { IsTrue result
-        ↔ (IsOperandLow VIRTUAL_REGISTERS a.now free × IsOperandLow VIRTUAL_REGISTERS b.now (above a.now free)) }
+// Whether there are enough registers for two operands.
+#[cycle(low)]
+fn both_low(a: &Expr, b: &Expr, free: u8) -> bool
+    ensures { IsTrue result ↔ AreBothLow VIRTUAL_REGISTERS a.now b.now free }
 {
-    match operand_low(a, free) {
-        Some(second) => operand_low(b, second).is_some(),
-        None => false,
+    if is_right_first(a, b) {
+        match operand_low(b, free) {
+            Some(next) => operand_low(a, next).is_some(),
+            None => false,
+        }
+    } else {
+        match operand_low(a, free) {
+            Some(next) => operand_low(b, next).is_some(),
+            None => false,
+        }
     }
 }
 
@@ -109,7 +121,7 @@ pub(crate) fn stmt_low(s: &Stmt, free: u8) -> bool
         Stmt::Break(_) => true,
         Stmt::Continue(_) => true,
         Stmt::Return(e) => operand_low(e, free).is_some(),
-        Stmt::Make(m, _, a, b) => maker_low(*m) && two_low(a, b, free),
+        Stmt::Make(m, _, a, b) => maker_low(*m) && both_low(a, b, free),
         Stmt::Wait(d, e, _) => one_low(*d, free) && one_low(*e, free),
         Stmt::Cancel(_) => true,
         Stmt::Read(d, _) => is_low(*d),

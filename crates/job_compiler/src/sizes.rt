@@ -1,9 +1,10 @@
 // How many instructions there will be.
 ghost use Rattle.std.specs.Prelude.{◌≡◌, ◌+◌, ◌≤◌, length, option_map, SomeIff};
-ghost use Rattle.job_compiler.specs.Code.{above, operand_code, opposite, opposed, is_zero, compared, jumps, over_size, test_size, stmt_size};
-ghost use Rattle.job_compiler.specs.Registers.{IsOperandLow, IsWantedLow, IsTestLow, IsStmtLow};
+ghost use Rattle.job_compiler.specs.Code.{above, operand_code, both_code, opposite, opposed, is_zero, compared, jumps, over_size, test_size, stmt_size};
+ghost use Rattle.job_compiler.specs.Registers.{IsOperandLow, AreBothLow, IsWantedLow, IsTestLow, IsStmtLow};
 ghost use Rattle.job_compiler.specs.Wanted.{wanted_code};
 
+use crate::needs::is_right_first;
 use crate::registers::VIRTUAL_REGISTERS;
 use source_language::{Expr, Operator, Stmt, Test};
 
@@ -32,6 +33,7 @@ pub(crate) fn above(e: &Expr, free: u8) -> u8
 }
 
 /// The size of an expression's code: as an operand, or with a register to be written.
+#[cycle(size)]
 pub(crate) fn expr_size(e: &Expr, into: Option<u8>, free: u8) -> Option<u8>
     requires { IsWantedLow VIRTUAL_REGISTERS e.now into free }
     ensures { SomeIff result (length (wanted_code e.now into free) ≤ MAX_BODY) (length (wanted_code e.now into free)) }
@@ -44,11 +46,22 @@ pub(crate) fn expr_size(e: &Expr, into: Option<u8>, free: u8) -> Option<u8>
         },
         Expr::Slot => Some(1),
         Expr::Width => Some(1),
-        Expr::Two(_, a, b) => {
-            let first = expr_size(a, None, free)?;
-            let second = expr_size(b, None, above(a, free))?;
-            sum(sum(first, second)?, 1)
-        }
+        Expr::Two(_, a, b) => sum(both_size(a, b, free)?, 1),
+    }
+}
+
+/// The size of the code of two operands.
+#[cycle(size)]
+fn both_size(a: &Expr, b: &Expr, free: u8) -> Option<u8>
+    requires { AreBothLow VIRTUAL_REGISTERS a.now b.now free }
+    ensures { SomeIff result (length (both_code a.now b.now free) ≤ MAX_BODY) (length (both_code a.now b.now free)) }
+{
+    if is_right_first(a, b) {
+        let right = expr_size(b, None, free)?;
+        sum(expr_size(a, None, above(b, free))?, right)
+    } else {
+        let left = expr_size(a, None, free)?;
+        sum(left, expr_size(b, None, above(a, free))?)
     }
 }
 
@@ -174,11 +187,7 @@ pub(crate) fn stmt_size(s: &Stmt, free: u8) -> Option<u8>
         Stmt::Break(_) => Some(1),
         Stmt::Continue(_) => Some(1),
         Stmt::Return(e) => sum(expr_size(e, None, free)?, 1),
-        Stmt::Make(_, _, a, b) => {
-            let first = expr_size(a, None, free)?;
-            let second = expr_size(b, None, above(a, free))?;
-            sum(sum(first, second)?, 1)
-        }
+        Stmt::Make(_, _, a, b) => sum(both_size(a, b, free)?, 1),
         Stmt::Wait(_, _, _) => Some(1),
         Stmt::Cancel(_) => Some(1),
         Stmt::Read(_, _) => Some(1),

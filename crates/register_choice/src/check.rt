@@ -8,9 +8,9 @@ ghost use Rattle.register_choice.specs.Choice.{IsColouredAt, IsColouring, Stays,
 use crate::uses::{leads_to, reads, writes};
 use job_compiler::{VirtualCode, VirtualInstr};
 
-/// Whether registers that were chosen for virtual ones serve as well: `live` says for each place
-/// which virtual registers are read later.
-pub fn is_coloured(code: &VirtualCode, colours: &[u8], live: &[[bool; 256]]) -> bool
+/// Whether registers that were chosen for virtual ones serve as well: `colours` says for each place
+/// which register a virtual one has there, and `live` which virtual registers are read later.
+pub fn is_coloured(code: &VirtualCode, colours: &[[u8; 256]], live: &[[bool; 256]]) -> bool
     ensures { IsTrue result ↔ IsColouring code.now colours.now live.now }
 {
     for (place, instr) in code.instrs().iter().enumerate() {
@@ -18,27 +18,42 @@ pub fn is_coloured(code: &VirtualCode, colours: &[u8], live: &[[bool; 256]]) -> 
             return false;
         }
     }
-    begins(colours, row(live, 0))
+    begins(colours_at(colours, 0), row(live, 0))
 }
 
-fn is_coloured_at(instr: &VirtualInstr, place: usize, colours: &[u8], live: &[[bool; 256]]) -> bool
+fn is_coloured_at(
+    instr: &VirtualInstr,
+    place: usize,
+    colours: &[[u8; 256]],
+    live: &[[bool; 256]],
+) -> bool
     requires { place < usize.MAX }
     ensures { IsTrue result ↔ IsColouredAt colours.now live.now place (instr_of instr.now) }
 {
     let written = writes(instr);
     let (first, second) = leads_to(instr, place);
     are_live(row(live, place), reads(instr))
-        && are_low(colours, written)
+        && are_low(colours_at(colours, place + 1), written)
         && flows_on(colours, live, place, written, first)
         && flows_on(colours, live, place, written, second)
 }
 
 fn colour(colours: &[u8], u: usize) -> u8
-    ensures { result ≡ colour_of colours.now u }
+    ensures { result ≡ slice_index_or colours.now u 0 }
 {
     match colours.get(u) {
         Some(colour) => *colour,
         None => 0,
+    }
+}
+
+/// The registers of virtual ones at a place.
+pub(crate) fn colours_at<'a>(colours: &'a [[u8; 256]], place: usize) -> &'a [u8]
+    ensures { result.now ≡ slice_index_or colours.now place [] }
+{
+    match colours.get(place) {
+        Some(row) => row.as_slice(),
+        None => &[],
     }
 }
 
@@ -73,14 +88,14 @@ fn are_live(row: &[bool], registers: (Option<u8>, Option<u8>)) -> bool
 }
 
 fn is_low(colours: &[u8], d: u8) -> bool
-    ensures { IsTrue result ↔ ((d < 256) × (colour_of colours.now d < 8)) }
+    ensures { IsTrue result ↔ ((d < 256) × (slice_index_or colours.now d 0 < 8)) }
 {
     colour(colours, usize::from(d)) < 8
 }
 
 fn are_low(colours: &[u8], registers: (Option<u8>, Option<u8>)) -> bool
     ensures { IsTrue result
-        ↔ AllByRecursion (λ d. (d < 256) × (colour_of colours.now d < 8)) (listed registers.0 registers.1) }
+        ↔ AllByRecursion (λ d. (d < 256) × (slice_index_or colours.now d 0 < 8)) (listed registers.0 registers.1) }
 {
     match registers {
         (None, None) => true,
@@ -90,10 +105,10 @@ fn are_low(colours: &[u8], registers: (Option<u8>, Option<u8>)) -> bool
     }
 }
 
-// Whether what is read later was read later before, or is written here, and nothing that is written
-// here lies on it.
+// Whether what is read later was read later before and keeps its register, or is written here, and
+// nothing that is written here lies on it.
 fn flows_on(
-    colours: &[u8],
+    colours: &[[u8; 256]],
     live: &[[bool; 256]],
     place: usize,
     written: (Option<u8>, Option<u8>),
@@ -104,35 +119,46 @@ fn flows_on(
         (listed next None) }
 {
     match next {
-        Some(next) => flows(colours, row(live, place), row(live, next), written),
+        Some(next) => {
+            let from = colours_at(colours, place);
+            let to = colours_at(colours, next);
+            flows(from, to, row(live, place), row(live, next), written)
+        }
         None => true,
     }
 }
 
-fn flows(colours: &[u8], here: &[bool], next: &[bool], written: (Option<u8>, Option<u8>)) -> bool
+fn flows(
+    from: &[u8],
+    to: &[u8],
+    here: &[bool],
+    next: &[bool],
+    written: (Option<u8>, Option<u8>),
+) -> bool
     ensures { IsTrue result ↔ ((u : ℕ) → slice_index_or next.now u false ≡ true
-        → Stays (colour_of colours.now) here.now u (listed written.0 written.1)) }
+        → Stays (λ u. slice_index_or from.now u 0) (λ u. slice_index_or to.now u 0) here.now u
+            (listed written.0 written.1)) }
 {
     for (u, live) in next.iter().enumerate() {
-        if *live && !stays(colours, here, u, written) {
+        if *live && !stays(from, to, here, u, written) {
             return false;
         }
     }
     true
 }
 
-fn stays(colours: &[u8], here: &[bool], u: usize, written: (Option<u8>, Option<u8>)) -> bool
-    ensures { IsTrue result ↔ Stays (colour_of colours.now) here.now u (listed written.0 written.1) }
+fn stays(from: &[u8], to: &[u8], here: &[bool], u: usize, written: (Option<u8>, Option<u8>)) -> bool
+    ensures { IsTrue result
+        ↔ Stays (λ u. slice_index_or from.now u 0) (λ u. slice_index_or to.now u 0) here.now u
+            (listed written.0 written.1) }
 {
-    let was = is_live(here, u);
+    let was = is_live(here, u) && colour(to, u) == colour(from, u);
     match written {
         (None, None) => was,
-        (None, Some(b)) => (is_same(u, b) || was) && is_apart(colours, u, b),
-        (Some(a), None) => (is_same(u, a) || was) && is_apart(colours, u, a),
+        (None, Some(b)) => (is_same(u, b) || was) && is_apart(to, u, b),
+        (Some(a), None) => (is_same(u, a) || was) && is_apart(to, u, a),
         (Some(a), Some(b)) => {
-            (is_same(u, a) || is_same(u, b) || was)
-                && is_apart(colours, u, a)
-                && is_apart(colours, u, b)
+            (is_same(u, a) || is_same(u, b) || was) && is_apart(to, u, a) && is_apart(to, u, b)
         }
     }
 }
@@ -145,14 +171,14 @@ fn is_same(u: usize, d: u8) -> bool
 
 // Whether two virtual registers are the same one, or in different registers.
 fn is_apart(colours: &[u8], u: usize, d: u8) -> bool
-    ensures { IsTrue result ↔ (u ≢ d → colour_of colours.now u ≢ colour_of colours.now d) }
+    ensures { IsTrue result ↔ (u ≢ d → slice_index_or colours.now u 0 ≢ slice_index_or colours.now d 0) }
 {
     is_same(u, d) || colour(colours, u) != colour(colours, usize::from(d))
 }
 
 fn begins(colours: &[u8], first: &[bool]) -> bool
     ensures { IsTrue result ↔ ((u : ℕ) → slice_index_or first.now u false ≡ true
-        → ((u < 2) × (colour_of colours.now u ≡ u)) ⊎ ((2 ≤ u) × (2 ≤ colour_of colours.now u))) }
+        → ((u < 2) × (slice_index_or colours.now u 0 ≡ u)) ⊎ ((2 ≤ u) × (2 ≤ slice_index_or colours.now u 0))) }
 {
     for (u, live) in first.iter().enumerate() {
         if *live && !starts_well(u, colour(colours, u)) {
