@@ -1,5 +1,5 @@
 -- A frame that has come to where a function is does what the function does next.
-use Rattle.std.proofs.Common.{◌≡◌, ℕ, ◌+◌, ◌<◌, ◌≤◌, ◌^◌, ℤ, pos, Bool, true, false, true≢false, if◌then◌else◌, List, [], ◌∷◌, ◌++◌, length, get_or, set, Option, Some, None, refl, sym, ap, subst}
+use Rattle.std.proofs.Common.{◌≡◌, ℕ, ◌+◌, ◌<◌, ◌^◌, ℤ, pos, Bool, true, false, true≢false, if◌then◌else◌, List, [], ◌∷◌, ◌++◌, length, get_or, set, Option, Some, None, refl, sym, ap, subst}
 use Rattle.std.proofs.Common.{◌∙◌, arith, inl}
 use Rattle.std.proofs.Common.{inr, ltb-false, length-set, FitsSigned}
 use Rattle.std.specs.Prelude.{nat_lt, slice_get, slice_set, slice_index_or}
@@ -27,7 +27,7 @@ use Rattle.job_compiler.specs.Code.{stmt_code}
 use Rattle.job_compiler.specs.declared.labels.Label.{Label}
 use Rattle.job_compiler.specs.Operations.{operation_of, resumed}
 use Rattle.job_compiler.proofs.Values.{FitsIf, value_fits}
-use Rattle.job_compiler.proofs.Steps.{AreAllKept, Agree, at, HasAt, has_front, has_back, Comes, comes_on, fails_on, stays, one_step, write, WritesIf, BringsIf, BringsBothIf, value_runs, operand_runs, both_run}
+use Rattle.job_compiler.proofs.Steps.{Agree, at, HasAt, has_front, has_back, Comes, comes_on, fails_on, stays, one_step, write, WritesIf, BringsIf, BringsBothIf, value_runs, operand_runs, both_run}
 use Rattle.job_compiler.proofs.Conditions.{JumpsIf, test_runs, test_length}
 use Rattle.job_compiler.proofs.Stands.{over_length, stmt_length, agree_written, agree_set, agree_put, put_long, Reaches, IsLoop, IsAt, past_place, next_place, Stands, Stops, Follows, continues}
 use Rattle.job_compiler.proofs.Stands.{resumes_at}

@@ -1,6 +1,4 @@
-use Rattle.std.proofs.Common.{◌≡◌, ℕ, ◌+◌, ◌++◌, List, length, Box, Global, refl, sym, ap, subst, ◌∙◌, arith, length-append}
-use Rattle.job_language.specs.declared.instructions.Instr.{Instr}
-use Rattle.source_language.specs.declared.syntax.Expr.{Expr}
+use Rattle.std.proofs.Common.{◌≡◌, ◌+◌, ◌++◌, length, sym, ap, subst, ◌∙◌, arith, length-append}
 use Rattle.job_compiler.specs.declared.registers.TheConstants.{VIRTUAL_REGISTERS}
 use Rattle.job_compiler.specs.Code.{both_code, left_of, right_of}
 use Rattle.job_compiler.specs.Registers.{AreBothLow, IsWantedLow}
