@@ -20,53 +20,57 @@ events_alike : (o : Operation) (answers : List (ℤ × ℤ)) (G H : (ℤ × ℤ)
 events_alike o [] G H each = refl
 events_alike o (a ∷ rest) G H each = ap (λ x. if is_return o then Some (Did o ∷ []) else option_map (λ events. Did o ∷ events) x) (each a rest)
 
-module _ (c : ℕ → ℕ) (live : ℕ → ℕ → Bool) (most : ℕ) where
+module _ (c : ℕ → ℕ → ℕ) (live : ℕ → ℕ → Bool) (most : ℕ) where
+  -- what keeps its register is the same
+  before : (k next u : ℕ) (vregs regs : List ℤ) → (live k u ≡ true) × (c next u ≡ c k u) → Same c live most k vregs regs → get_or vregs u (pos 0) ≡ get_or regs (c next u) (pos 0)
+  before k next u vregs regs was s = s.same u was.0 ∙ ap (λ r. get_or regs r (pos 0)) (sym was.1)
+
   -- nothing is written
   unwritten : (k next : ℕ) (vregs regs : List ℤ) → Flows c live [] k next → Same c live most k vregs regs → Same c live most next vregs regs
   unwritten k next vregs regs flow s = record {
     all = s.all;
     long = s.long;
-    same = λ u l. ⊎_elim (λ (none : ⊥). absurd none) (λ was. s.same u was) (flow u l).0;
+    same = λ u l. ⊎_elim (λ (none : ⊥). absurd none) (λ was. before k next u vregs regs was s) (flow u l).0;
   }
 
   -- one register is written
-  written : (k next d : ℕ) (v w : ℤ) (vregs regs : List ℤ) → Flows c live (d ∷ []) k next → d < most → c d < 8 → v ≡ w → Same c live most k vregs regs
-      → Same c live most next (set vregs d v) (set regs (c d) w)
+  written : (k next d : ℕ) (v w : ℤ) (vregs regs : List ℤ) → Flows c live (d ∷ []) k next → d < most → c next d < 8 → v ≡ w → Same c live most k vregs regs
+      → Same c live most next (set vregs d v) (set regs (c next d) w)
   written k next d v w vregs regs flow low low' e s = record {
     all = length-set vregs d v ∙ s.all;
-    long = length-set regs (c d) w ∙ s.long;
+    long = length-set regs (c next d) w ∙ s.long;
     same = λ u l. ⊎_elim
-        (λ is. subst (λ x. get_or (set vregs d v) x (pos 0) ≡ get_or (set regs (c d) w) (c x) (pos 0)) (sym is)
-        (get_or-set_same vregs d v (pos 0) (omega (arith, low, s.all)) ∙ e ∙ sym (get_or-set_same regs (c d) w (pos 0) (omega (arith, low', s.long)))))
-        (λ other. get_or-set_other vregs d u v (pos 0) other ∙ ⊎_elim (λ within. ⊎_elim (λ is. absurd (other is)) (λ (none : ⊥). absurd none) within) (λ was. s.same u was) (flow u l).0
-        ∙ sym (get_or-set_other regs (c d) (c u) w (pos 0) ((flow u l).1.0 other)))
+        (λ is. subst (λ x. get_or (set vregs d v) x (pos 0) ≡ get_or (set regs (c next d) w) (c next x) (pos 0)) (sym is)
+        (get_or-set_same vregs d v (pos 0) (omega (arith, low, s.all)) ∙ e ∙ sym (get_or-set_same regs (c next d) w (pos 0) (omega (arith, low', s.long)))))
+        (λ other. get_or-set_other vregs d u v (pos 0) other ∙ ⊎_elim (λ within. ⊎_elim (λ is. absurd (other is)) (λ (none : ⊥). absurd none) within) (λ was. before k next u vregs regs was s) (flow u l).0
+        ∙ sym (get_or-set_other regs (c next d) (c next u) w (pos 0) ((flow u l).1.0 other)))
         (cases_eq u d);
   }
 
   -- two are written, one after the other
-  both_written : (k next d e : ℕ) (x y : ℤ) (vregs regs : List ℤ) → Flows c live (d ∷ e ∷ []) k next → d < most → c d < 8 → e < most → c e < 8 → Same c live most k vregs regs
-      → Same c live most next (set (set vregs d x) e y) (set (set regs (c d) x) (c e) y)
+  both_written : (k next d e : ℕ) (x y : ℤ) (vregs regs : List ℤ) → Flows c live (d ∷ e ∷ []) k next → d < most → c next d < 8 → e < most → c next e < 8 → Same c live most k vregs regs
+      → Same c live most next (set (set vregs d x) e y) (set (set regs (c next d) x) (c next e) y)
   both_written k next d e x y vregs regs flow low low' low2 low2' s = record {
     all = length-set (set vregs d x) e y ∙ length-set vregs d x ∙ s.all;
-    long = length-set (set regs (c d) x) (c e) y ∙ length-set regs (c d) x ∙ s.long;
+    long = length-set (set regs (c next d) x) (c next e) y ∙ length-set regs (c next d) x ∙ s.long;
     same = λ u l. ⊎_elim
-        (λ is. subst (λ z. get_or (set (set vregs d x) e y) z (pos 0) ≡ get_or (set (set regs (c d) x) (c e) y) (c z) (pos 0)) (sym is)
+        (λ is. subst (λ z. get_or (set (set vregs d x) e y) z (pos 0) ≡ get_or (set (set regs (c next d) x) (c next e) y) (c next z) (pos 0)) (sym is)
         (get_or-set_same (set vregs d x) e y (pos 0) (omega (arith, low2, s.all, length-set vregs d x))
-        ∙ sym (get_or-set_same (set regs (c d) x) (c e) y (pos 0) (omega (arith, low2', s.long, length-set regs (c d) x)))))
-        (λ other. get_or-set_other (set vregs d x) e u y (pos 0) other ∙ first u l other ∙ sym (get_or-set_other (set regs (c d) x) (c e) (c u) y (pos 0) ((flow u l).1.1.0 other)))
+        ∙ sym (get_or-set_same (set regs (c next d) x) (c next e) y (pos 0) (omega (arith, low2', s.long, length-set regs (c next d) x)))))
+        (λ other. get_or-set_other (set vregs d x) e u y (pos 0) other ∙ first u l other ∙ sym (get_or-set_other (set regs (c next d) x) (c next e) (c next u) y (pos 0) ((flow u l).1.1.0 other)))
         (cases_eq u e);
   }
     where
-      first : (u : ℕ) → live next u ≡ true → (u ≡ e → ⊥) → get_or (set vregs d x) u (pos 0) ≡ get_or (set regs (c d) x) (c u) (pos 0)
+      first : (u : ℕ) → live next u ≡ true → (u ≡ e → ⊥) → get_or (set vregs d x) u (pos 0) ≡ get_or (set regs (c next d) x) (c next u) (pos 0)
       first u l not_e = ⊎_elim
-          (λ is. subst (λ z. get_or (set vregs d x) z (pos 0) ≡ get_or (set regs (c d) x) (c z) (pos 0)) (sym is)
-          (get_or-set_same vregs d x (pos 0) (omega (arith, low, s.all)) ∙ sym (get_or-set_same regs (c d) x (pos 0) (omega (arith, low', s.long)))))
+          (λ is. subst (λ z. get_or (set vregs d x) z (pos 0) ≡ get_or (set regs (c next d) x) (c next z) (pos 0)) (sym is)
+          (get_or-set_same vregs d x (pos 0) (omega (arith, low, s.all)) ∙ sym (get_or-set_same regs (c next d) x (pos 0) (omega (arith, low', s.long)))))
           (λ other. get_or-set_other vregs d u x (pos 0) other ∙ ⊎_elim
-          (λ within. ⊎_elim (λ is. absurd (other is)) (λ within'. ⊎_elim (λ is. absurd (not_e is)) (λ (none : ⊥). absurd none) within') within) (λ was. s.same u was) (flow u l).0
-          ∙ sym (get_or-set_other regs (c d) (c u) x (pos 0) ((flow u l).1.0 other)))
+          (λ within. ⊎_elim (λ is. absurd (other is)) (λ within'. ⊎_elim (λ is. absurd (not_e is)) (λ (none : ⊥). absurd none) within') within) (λ was. before k next u vregs regs was s) (flow u l).0
+          ∙ sym (get_or-set_other regs (c next d) (c next u) x (pos 0) ((flow u l).1.0 other)))
           (cases_eq u d)
 
-module _ (vprocs procs : List (List Instr)) (slot width p most : ℕ) (c : ℕ → ℕ) (live : ℕ → ℕ → Bool) (coloured : IsColoured most (slice_index_or vprocs p []) (slice_index_or procs p []) c live) where
+module _ (vprocs procs : List (List Instr)) (slot width p most : ℕ) (c : ℕ → ℕ → ℕ) (live : ℕ → ℕ → Bool) (coloured : IsColoured most (slice_index_or vprocs p []) (slice_index_or procs p []) c live) where
   abbrev at : ℕ → List ℤ → Frame
   at k regs = record { procedure = p; place = k; registers = regs }
 
@@ -77,23 +81,23 @@ module _ (vprocs procs : List (List Instr)) (slot width p most : ℕ) (c : ℕ �
   module _ (n : ℕ) (ih : Alike n) (k : ℕ) (vregs regs : List ℤ) (answers : List (ℤ × ℤ)) (s : Same c live most k vregs regs) where
     abbrev By : Instr → Type 0
     By i = slice_get (slice_index_or vprocs p []) k ≡ Some i → frame_by (frame_events vprocs slot width n) (at k vregs) (effect i slot width (at k vregs)) (Some i) answers
-        ≡ frame_by (frame_events procs slot width n) (at k regs) (effect (renamed c i) slot width (at k regs)) (Some (renamed c i)) answers
+        ≡ frame_by (frame_events procs slot width n) (at k regs) (effect (renamed (c k) (c (k + 1)) i) slot width (at k regs)) (Some (renamed (c k) (c (k + 1)) i)) answers
 
-    moves_alike : (d : ℕ) (v w : ℤ) → Flows c live (d ∷ []) k (k + 1) → d < most → c d < 8 → v ≡ w
-        → frame_events vprocs slot width n (at (k + 1) (set vregs d v)) answers ≡ frame_events procs slot width n (at (k + 1) (set regs (c d) w)) answers
-    moves_alike d v w flow low low' e = ih (k + 1) (set vregs d v) (set regs (c d) w) answers (written c live most k (k + 1) d v w vregs regs flow low low' e s)
+    moves_alike : (d : ℕ) (v w : ℤ) → Flows c live (d ∷ []) k (k + 1) → d < most → c (k + 1) d < 8 → v ≡ w
+        → frame_events vprocs slot width n (at (k + 1) (set vregs d v)) answers ≡ frame_events procs slot width n (at (k + 1) (set regs (c (k + 1) d) w)) answers
+    moves_alike d v w flow low low' e = ih (k + 1) (set vregs d v) (set regs (c (k + 1) d) w) answers (written c live most k (k + 1) d v w vregs regs flow low low' e s)
 
-    two : (f : ℤ → ℤ → ℤ) (a b : ℕ) → live k a ≡ true → live k b ≡ true → f (get_or vregs a (pos 0)) (get_or vregs b (pos 0)) ≡ f (get_or regs (c a) (pos 0)) (get_or regs (c b) (pos 0))
+    two : (f : ℤ → ℤ → ℤ) (a b : ℕ) → live k a ≡ true → live k b ≡ true → f (get_or vregs a (pos 0)) (get_or vregs b (pos 0)) ≡ f (get_or regs (c k a) (pos 0)) (get_or regs (c k b) (pos 0))
     two f a b la lb = rw (s.same a la, s.same b lb) refl
 
     goes_alike : (next : ℕ) → Flows c live [] k next → frame_events vprocs slot width n (at next vregs) answers ≡ frame_events procs slot width n (at next regs) answers
     goes_alike next flow = ih next vregs regs answers (unwritten c live most k next vregs regs flow s)
 
     -- an operation whose answer is written
-    answer_alike : (o : Operation) (d : ℕ) → Flows c live (d ∷ []) k (k + 1) → d < most → c d < 8
+    answer_alike : (o : Operation) (d : ℕ) → Flows c live (d ∷ []) k (k + 1) → d < most → c (k + 1) d < 8
         → events_after o answers (λ a rest. frame_events vprocs slot width n (at (k + 1) (set vregs d a.0)) rest)
-        ≡ events_after o answers (λ a rest. frame_events procs slot width n (at (k + 1) (set regs (c d) a.0)) rest)
-    answer_alike o d flow low low' = events_alike o answers _ _ (λ a rest. ih (k + 1) (set vregs d a.0) (set regs (c d) a.0) rest
+        ≡ events_after o answers (λ a rest. frame_events procs slot width n (at (k + 1) (set regs (c (k + 1) d) a.0)) rest)
+    answer_alike o d flow low low' = events_alike o answers _ _ (λ a rest. ih (k + 1) (set vregs d a.0) (set regs (c (k + 1) d) a.0) rest
         (written c live most k (k + 1) d a.0 a.0 vregs regs flow low low' refl s))
 
     -- an operation whose answer is not
@@ -103,16 +107,16 @@ module _ (vprocs procs : List (List Instr)) (slot width p most : ℕ) (c : ℕ �
 
     -- a division or what it leaves
     divides_alike : (i i' : Instr) (op : ℤ → ℤ → ℤ) (d : ℕ) (y y' : ℤ) → y ≡ y' → (x x' : ℤ) → x ≡ x'
-        → ((v v' : ℤ) → v ≡ v' → frame_events vprocs slot width n (at (k + 1) (set vregs d v)) answers ≡ frame_events procs slot width n (at (k + 1) (set regs (c d) v')) answers)
+        → ((v v' : ℤ) → v ≡ v' → frame_events vprocs slot width n (at (k + 1) (set vregs d v)) answers ≡ frame_events procs slot width n (at (k + 1) (set regs (c (k + 1) d) v')) answers)
         → frame_by (frame_events vprocs slot width n) (at k vregs) (if is_zero y then DividesByZero else Moves (at (k + 1) (set vregs d (op x y)))) (Some i) answers
-        ≡ frame_by (frame_events procs slot width n) (at k regs) (if is_zero y' then DividesByZero else Moves (at (k + 1) (set regs (c d) (op x' y')))) (Some i') answers
+        ≡ frame_by (frame_events procs slot width n) (at k regs) (if is_zero y' then DividesByZero else Moves (at (k + 1) (set regs (c (k + 1) d) (op x' y')))) (Some i') answers
     divides_alike i i' op d y y' ey x x' ex each = subst (λ (z : ℤ). frame_by (frame_events vprocs slot width n) (at k vregs)
         (if is_zero y then DividesByZero else Moves (at (k + 1) (set vregs d (op x y)))) (Some i) answers
-        ≡ frame_by (frame_events procs slot width n) (at k regs) (if is_zero z then DividesByZero else Moves (at (k + 1) (set regs (c d) (op x' z)))) (Some i') answers) ey (by_y y)
+        ≡ frame_by (frame_events procs slot width n) (at k regs) (if is_zero z then DividesByZero else Moves (at (k + 1) (set regs (c (k + 1) d) (op x' z)))) (Some i') answers) ey (by_y y)
       where
         by_y : (y : ℤ)
             → frame_by (frame_events vprocs slot width n) (at k vregs) (if is_zero y then DividesByZero else Moves (at (k + 1) (set vregs d (op x y)))) (Some i) answers
-            ≡ frame_by (frame_events procs slot width n) (at k regs) (if is_zero y then DividesByZero else Moves (at (k + 1) (set regs (c d) (op x' y)))) (Some i') answers
+            ≡ frame_by (frame_events procs slot width n) (at k regs) (if is_zero y then DividesByZero else Moves (at (k + 1) (set regs (c (k + 1) d) (op x' y)))) (Some i') answers
         by_y (pos zero) = refl
         by_y (pos (suc m)) = each _ _ (ap (λ z. op z (pos (suc m))) ex)
         by_y (negsuc m) = each _ _ (ap (λ z. op z (negsuc m)) ex)
@@ -125,11 +129,11 @@ module _ (vprocs procs : List (List Instr)) (slot width p most : ℕ) (c : ℕ �
     by_instr (Lt d a b) h = let l = coloured.low k _ h in let w = coloured.flow k _ h in let r = coloured.read k _ h in moves_alike d _ _ w.0 l.0.0 l.0.1
         (two (λ x y. if int_lt x y then pos 1 else pos 0) a b r.0 r.1.0)
     by_instr (Div d a b) h = let l = coloured.low k _ h in let w = coloured.flow k _ h in let r = coloured.read k _ h in
-        divides_alike (Div d a b) (Div (c d) (c a) (c b)) (int_wrapping_div w64) d (get_or vregs b (pos 0)) (get_or regs (c b) (pos 0)) (s.same b r.1.0) (get_or vregs a (pos 0))
-        (get_or regs (c a) (pos 0)) (s.same a r.0)
+        divides_alike (Div d a b) (Div (c (k + 1) d) (c k a) (c k b)) (int_wrapping_div w64) d (get_or vregs b (pos 0)) (get_or regs (c k b) (pos 0)) (s.same b r.1.0) (get_or vregs a (pos 0))
+        (get_or regs (c k a) (pos 0)) (s.same a r.0)
         (λ v v' e. moves_alike d v v' w.0 l.0.0 l.0.1 e)
     by_instr (Rem d a b) h = let l = coloured.low k _ h in let w = coloured.flow k _ h in let r = coloured.read k _ h in
-        divides_alike (Rem d a b) (Rem (c d) (c a) (c b)) int_rem d (get_or vregs b (pos 0)) (get_or regs (c b) (pos 0)) (s.same b r.1.0) (get_or vregs a (pos 0)) (get_or regs (c a) (pos 0))
+        divides_alike (Rem d a b) (Rem (c (k + 1) d) (c k a) (c k b)) int_rem d (get_or vregs b (pos 0)) (get_or regs (c k b) (pos 0)) (s.same b r.1.0) (get_or vregs a (pos 0)) (get_or regs (c k a) (pos 0))
         (s.same a r.0)
         (λ v v' e. moves_alike d v v' w.0 l.0.0 l.0.1 e)
     by_instr (And d a b) h = let l = coloured.low k _ h in let w = coloured.flow k _ h in let r = coloured.read k _ h in moves_alike d _ _ w.0 l.0.0 l.0.1 (two (int_bit_and w64) a b r.0 r.1.0)
@@ -157,23 +161,23 @@ module _ (vprocs procs : List (List Instr)) (slot width p most : ℕ) (c : ℕ �
     by_instr (Slot d) h = let l = coloured.low k _ h in let w = coloured.flow k _ h in moves_alike d (pos slot) (pos slot) w.0 l.0.0 l.0.1 refl
     by_instr (Width d) h = let l = coloured.low k _ h in let w = coloured.flow k _ h in moves_alike d (pos width) (pos width) w.0 l.0.0 l.0.1 refl
     by_instr (Spawn g q a b) h = let w = coloured.flow k _ h in let r = coloured.read k _ h in
-        rw (s.same a r.0, s.same b r.1.0) (silent_alike (Spawns g q (get_or regs (c a) (pos 0)) (get_or regs (c b) (pos 0))) w.0)
+        rw (s.same a r.0, s.same b r.1.0) (silent_alike (Spawns g q (get_or regs (c k a) (pos 0)) (get_or regs (c k b) (pos 0))) w.0)
     by_instr (Post q a b) h = let w = coloured.flow k _ h in let r = coloured.read k _ h in
-        rw (s.same a r.0, s.same b r.1.0) (silent_alike (Posts q (get_or regs (c a) (pos 0)) (get_or regs (c b) (pos 0))) w.0)
+        rw (s.same a r.0, s.same b r.1.0) (silent_alike (Posts q (get_or regs (c k a) (pos 0)) (get_or regs (c k b) (pos 0))) w.0)
     by_instr (Wait d e g) h = let l = coloured.low k _ h in let w = coloured.flow k _ h in
-        events_alike _ answers _ _ (λ a rest. ih (k + 1) (set (set vregs d a.0) e a.1) (set (set regs (c d) a.0) (c e) a.1) rest
+        events_alike _ answers _ _ (λ a rest. ih (k + 1) (set (set vregs d a.0) e a.1) (set (set regs (c (k + 1) d) a.0) (c (k + 1) e) a.1) rest
         (both_written c live most k (k + 1) d e a.0 a.1 vregs regs w.0 l.0.0 l.0.1 l.1.0.0 l.1.0.1 s))
     by_instr (Cancel g) h = let w = coloured.flow k _ h in silent_alike _ w.0
     by_instr (Ask d) h = let l = coloured.low k _ h in let w = coloured.flow k _ h in answer_alike _ d w.0 l.0.0 l.0.1
     by_instr (Isolate d q a b) h = let l = coloured.low k _ h in let w = coloured.flow k _ h in let r = coloured.read k _ h in
-        rw (s.same a r.0, s.same b r.1.0) (answer_alike (Isolates q (get_or regs (c a) (pos 0)) (get_or regs (c b) (pos 0))) d w.0 l.0.0 l.0.1)
+        rw (s.same a r.0, s.same b r.1.0) (answer_alike (Isolates q (get_or regs (c k a) (pos 0)) (get_or regs (c k b) (pos 0))) d w.0 l.0.0 l.0.1)
     by_instr (Load d key) h = let l = coloured.low k _ h in let w = coloured.flow k _ h in answer_alike _ d w.0 l.0.0 l.0.1
     by_instr (Store key a) h = let w = coloured.flow k _ h in let r = coloured.read k _ h in
-        rw (s.same a r.0) (silent_alike (Stores key (get_or regs (c a) (pos 0))) w.0)
+        rw (s.same a r.0) (silent_alike (Stores key (get_or regs (c k a) (pos 0))) w.0)
     by_instr (Sum d key) h = let l = coloured.low k _ h in let w = coloured.flow k _ h in answer_alike _ d w.0 l.0.0 l.0.1
     by_instr (Count d key) h = let l = coloured.low k _ h in let w = coloured.flow k _ h in answer_alike _ d w.0 l.0.0 l.0.1
     by_instr (Ret a) h = let r = coloured.read k _ h in
-        rw (s.same a r.0) (events_ret (Returns (get_or regs (c a) (pos 0))) refl)
+        rw (s.same a r.0) (events_ret (Returns (get_or regs (c k a) (pos 0))) refl)
       where
         events_ret : (o : Operation) → is_return o ≡ true
             → events_after o answers (λ x rest. frame_events vprocs slot width n (at (k + 1) vregs) rest) ≡ events_after o answers (λ x rest. frame_events procs slot width n (at (k + 1) regs) rest)

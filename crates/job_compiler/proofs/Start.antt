@@ -129,7 +129,7 @@ is_compiled f good valid procs p slot width x y is low_slot low_width fx fy =
     starts f good procs slot width p 8 x y is (valid_each (slice_index_or procs p []) (subst IsValidProc (sym is) valid)) (omega arith) low_slot low_width fx fy
 
 -- the same with registers that were chosen
-pub is_compiled_coloured : (f : Function) → IsFunction f → (instrs : List Instr) (size : ℕ) (c : ℕ → ℕ) (live : ℕ → ℕ → Bool) → 2 ≤ size → IsColoured size (function_code f) instrs c live
+pub is_compiled_coloured : (f : Function) → IsFunction f → (instrs : List Instr) (size : ℕ) (c : ℕ → ℕ → ℕ) (live : ℕ → ℕ → Bool) → 2 ≤ size → IsColoured size (function_code f) instrs c live
     → BeginsWith c live → IsCompiled f instrs
 is_compiled_coloured f good instrs size c live big coloured begins procs p slot width x y is low_slot low_width fx fy =
     record {
@@ -149,7 +149,7 @@ is_compiled_coloured f good instrs size c live big coloured begins procs p slot 
     below : (k : ℕ) (i : Instr) → slice_get (slice_index_or vprocs p []) k ≡ Some i → WritesBelow size i
     below k i e = firsts (writes i) (both.low k i e)
       where
-        firsts : (ds : List ℕ) → AllByRecursion (λ d. (d < size) × (c d < 8)) ds → AllByRecursion (λ d. d < size) ds
+        firsts : (ds : List ℕ) → AllByRecursion (λ d. (d < size) × (c (k + 1) d < 8)) ds → AllByRecursion (λ d. d < size) ds
         firsts [] h = tt
         firsts (d ∷ ds) h = (h.0.0, firsts ds h.1)
 
@@ -161,7 +161,7 @@ is_compiled_coloured f good instrs size c live big coloured begins procs p slot 
       all = omega (arith, length-replicate (size - 2) (pos 0), big);
       long = refl;
       same = λ u l. ⊎_elim (λ own. two_same (size - 2) 6 x y u ∙ ap (λ k. get_or (with_two 6 x y) k (pos 0)) (sym own.1))
-          (λ other. beyond (size - 2) x y u other.0 ∙ sym (beyond 6 x y (c u) other.1)) (begins u l);
+          (λ other. beyond (size - 2) x y u other.0 ∙ sym (beyond 6 x y (c 0 u) other.1)) (begins u l);
     }
 
     same : (n : ℕ) (answers : List (ℤ × ℤ)) → frame_events vprocs slot width n (frame_of p 0 (with_two (size - 2) x y)) answers ≡ frame_events procs slot width n (new_frame p x y) answers

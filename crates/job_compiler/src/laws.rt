@@ -36,7 +36,7 @@ pub fn runs_follow()
 /// any number of variables.
 pub fn coloured_code_is_compiled()
     ensures { (f : Function) → IsFunction f
-        → (instrs : List Instr) (size : ℕ) (c : ℕ → ℕ) (live : ℕ → ℕ → Bool)
+        → (instrs : List Instr) (size : ℕ) (c : ℕ → ℕ → ℕ) (live : ℕ → ℕ → Bool)
         → 2 ≤ size → IsColoured size (function_code f) instrs c live → BeginsWith c live
         → IsCompiled f instrs }
 {}

@@ -50,17 +50,17 @@ two_leads ShiftRight d a b k = refl
 two_leads AtMost d a b k = refl
 two_leads Equal d a b k = refl
 
-pub two_renamed : (c : ℕ → ℕ) (op : Operator) (d a b : ℕ) → renamed c (op_instr op d a b) ≡ op_instr op (c d) (c a) (c b)
-two_renamed c Plus d a b = refl
-two_renamed c Minus d a b = refl
-two_renamed c Times d a b = refl
-two_renamed c Over d a b = refl
-two_renamed c Remainder d a b = refl
-two_renamed c Below d a b = refl
-two_renamed c BitAnd d a b = refl
-two_renamed c BitOr d a b = refl
-two_renamed c BitXor d a b = refl
-two_renamed c ShiftLeft d a b = refl
-two_renamed c ShiftRight d a b = refl
-two_renamed c AtMost d a b = refl
-two_renamed c Equal d a b = refl
+pub two_renamed : (c c' : ℕ → ℕ) (op : Operator) (d a b : ℕ) → renamed c c' (op_instr op d a b) ≡ op_instr op (c' d) (c a) (c b)
+two_renamed c c' Plus d a b = refl
+two_renamed c c' Minus d a b = refl
+two_renamed c c' Times d a b = refl
+two_renamed c c' Over d a b = refl
+two_renamed c c' Remainder d a b = refl
+two_renamed c c' Below d a b = refl
+two_renamed c c' BitAnd d a b = refl
+two_renamed c c' BitOr d a b = refl
+two_renamed c c' BitXor d a b = refl
+two_renamed c c' ShiftLeft d a b = refl
+two_renamed c c' ShiftRight d a b = refl
+two_renamed c c' AtMost d a b = refl
+two_renamed c c' Equal d a b = refl

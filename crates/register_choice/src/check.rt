@@ -137,7 +137,7 @@ fn flows(
 ) -> bool
     ensures { IsTrue result ↔ ((u : ℕ) → slice_index_or next.now u false ≡ true
         → Stays (λ u. slice_index_or from.now u 0) (λ u. slice_index_or to.now u 0) here.now u
-            (listed written.0 written.1)) }
+        (listed written.0 written.1)) }
 {
     for (u, live) in next.iter().enumerate() {
         if *live && !stays(from, to, here, u, written) {
@@ -150,7 +150,7 @@ fn flows(
 fn stays(from: &[u8], to: &[u8], here: &[bool], u: usize, written: (Option<u8>, Option<u8>)) -> bool
     ensures { IsTrue result
         ↔ Stays (λ u. slice_index_or from.now u 0) (λ u. slice_index_or to.now u 0) here.now u
-            (listed written.0 written.1) }
+        (listed written.0 written.1) }
 {
     let was = is_live(here, u) && colour(to, u) == colour(from, u);
     match written {

@@ -1,5 +1,5 @@
 // The procedure of a function whose registers are chosen.
-ghost use Rattle.std.specs.Prelude.{◌≡◌, ◌≤◌, Err, [], length, count_by, IfOk, IfErr, IfSome, IsOk, vec_capacity};
+ghost use Rattle.std.specs.Prelude.{◌≡◌, ◌+◌, ◌≤◌, Err, [], length, count_by, IfOk, IfErr, IfSome, IsOk, vec_capacity};
 ghost use Rattle.source_language.specs.declared.syntax.Function.{Function};
 ghost use Rattle.job_compiler.specs.Code.{function_code};
 ghost use Rattle.job_compiler.specs.Compiled.{IsCompiled, IsFunction};
@@ -78,6 +78,7 @@ pub fn compile_in(memory: ChoiceMemory, function: &Function) -> Result<Proc, Cho
         plain,
         instrs,
         rows,
+        colours,
     } = memory;
     match code_in(code, function) {
         Ok(code) => {
@@ -85,7 +86,7 @@ pub fn compile_in(memory: ChoiceMemory, function: &Function) -> Result<Proc, Cho
                 return Ok(proc);
             }
             let live = liveness(rows, code.instrs());
-            match chosen(&code, &live, instrs) {
+            match chosen(&code, &live, colours, instrs) {
                 Some(proc) => Ok(proc),
                 None => Err(without_choice(&live)),
             }
@@ -95,7 +96,14 @@ pub fn compile_in(memory: ChoiceMemory, function: &Function) -> Result<Proc, Cho
 }
 
 // The procedure over registers that are chosen, if the check confirms the choice.
-fn chosen(code: &VirtualCode, live: &[[bool; 256]], memory: Vec<Instr>) -> Option<Proc>
+fn chosen(
+    code: &VirtualCode,
+    live: &[[bool; 256]],
+    colours: Vec<[u8; 256]>,
+    memory: Vec<Instr>,
+) -> Option<Proc>
+    requires uncoloured { colours.items ≡ [] }
+    requires colours { length code.now + 1 ≤ vec_capacity colours }
     requires empty { memory.items ≡ [] }
     requires room { length code.now ≤ vec_capacity memory }
     ensures compiled { IfSome result (λ proc. (f : Function) → IsFunction f
@@ -104,7 +112,7 @@ fn chosen(code: &VirtualCode, live: &[[bool; 256]], memory: Vec<Instr>) -> Optio
         → HasCode f → NamesTheSame f proc) }
 {
     coloured_code_is_compiled();
-    let colours = choose(code.instrs(), live);
+    let colours = choose(colours, code.instrs(), live);
     if !is_coloured(code, &colours, live) {
         return None;
     }

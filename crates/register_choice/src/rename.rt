@@ -11,7 +11,11 @@ use job_language::{Instr, Register};
 
 /// The instructions over the registers that were chosen, in memory that is there for them; none, if a
 /// frame lacks one of these.
-pub(crate) fn rename(code: &VirtualCode, colours: &[[u8; 256]], memory: Vec<Instr>) -> Option<Vec<Instr>>
+pub(crate) fn rename(
+    code: &VirtualCode,
+    colours: &[[u8; 256]],
+    memory: Vec<Instr>,
+) -> Option<Vec<Instr>>
     requires empty { memory.items ≡ [] }
     requires room { length code.now ≤ vec_capacity memory }
     ensures { IfSome result (λ instrs. instrs.items ≡ renamed_from colours.now 0 code.now) }
@@ -40,12 +44,7 @@ fn rename_one(instr: &VirtualInstr, from: &[u8], to: &[u8]) -> Option<Instr>
     match *instr {
         VirtualInstr::Set(d, n) => Some(Instr::Set(register(to, d)?, n)),
         VirtualInstr::Two(op, d, a, b) => {
-            Some(narrow_two(
-                op,
-                register(to, d)?,
-                register(from, a)?,
-                register(from, b)?,
-            ))
+            Some(narrow_two(op, register(to, d)?, register(from, a)?, register(from, b)?))
         }
         VirtualInstr::Slot(d) => Some(Instr::Slot(register(to, d)?)),
         VirtualInstr::Width(d) => Some(Instr::Width(register(to, d)?)),
@@ -57,24 +56,11 @@ fn rename_one(instr: &VirtualInstr, from: &[u8], to: &[u8]) -> Option<Instr>
             register(from, a)?,
             register(from, b)?,
         )),
-        VirtualInstr::Post(p, a, b) => Some(Instr::Post(
-            p,
-            register(from, a)?,
-            register(from, b)?,
-        )),
+        VirtualInstr::Post(p, a, b) => Some(Instr::Post(p, register(from, a)?, register(from, b)?)),
         VirtualInstr::Isolate(d, p, a, b) => {
-            Some(Instr::Isolate(
-                register(to, d)?,
-                p,
-                register(from, a)?,
-                register(from, b)?,
-            ))
+            Some(Instr::Isolate(register(to, d)?, p, register(from, a)?, register(from, b)?))
         }
-        VirtualInstr::Wait(d, e, g) => Some(Instr::Wait(
-            register(to, d)?,
-            register(to, e)?,
-            g,
-        )),
+        VirtualInstr::Wait(d, e, g) => Some(Instr::Wait(register(to, d)?, register(to, e)?, g)),
         VirtualInstr::Cancel(g) => Some(Instr::Cancel(g)),
         VirtualInstr::Ask(d) => Some(Instr::Ask(register(to, d)?)),
         VirtualInstr::Load(d, k) => Some(Instr::Load(register(to, d)?, k)),

@@ -27,7 +27,7 @@ loop-place-preserved c k i low here =
 pub returns : goal.returns
 returns c =
     let first = c.row.ensures in
-    let Begins : List Bool → Type 0 = λ row. (u : ℕ) → get_or row u false ≡ true → ((u < 2) × (colour_of c.args.colours.now u ≡ u)) ⊎ ((2 ≤ u) × (2 ≤ colour_of c.args.colours.now u)) in (
+    let Begins : List Bool → Type 0 = λ row. (u : ℕ) → get_or row u false ≡ true → ((u < 2) × (colour_of c.args.colours.now 0 u ≡ u)) ⊎ ((2 ≤ u) × (2 ≤ colour_of c.args.colours.now 0 u)) in (
       λ yes. record {
         begins = subst Begins first (c.begins.ensures.0 yes);
         places = λ k i here. c.loop-place.invariant k i

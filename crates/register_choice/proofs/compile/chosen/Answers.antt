@@ -10,7 +10,7 @@ use Rattle.register_choice.proofs.compile.chosen.Goals as goal
 
 pub returns-then-is_valid_proc-clause-compiled : goal.returns-then-is_valid_proc-clause-compiled
 returns-then-is_valid_proc-clause-compiled c f good is =
-    let colours = c.choose-colours.result in
+    let colours = c.choose-colours.result.items in
     let live = c.args.live.now in
     let chosen : IsColouring c.args.code.now colours live = search rules in
     let all : IsColoured 256 (function_code f) c.in_ok-instrs.instrs.items (colour_of colours) (live_of live) =
@@ -21,5 +21,5 @@ returns-then-is_valid_proc-clause-compiled c f good is =
 pub returns-then-is_valid_proc-clause-calls : goal.returns-then-is_valid_proc-clause-calls
 returns-then-is_valid_proc-clause-calls c f is has = record {
   code = has;
-  calls = λ n all. subst (All (Calls n)) (sym (c.new.ensures ∙ c.in_ok-instrs.ensures)) (all_named (colour_of c.choose-colours.result) n c.args.code.now (subst (All (Calls n)) is all));
+  calls = λ n all. subst (All (Calls n)) (sym (c.new.ensures ∙ c.in_ok-instrs.ensures)) (all_named c.choose-colours.result.items 0 n c.args.code.now (subst (All (Calls n)) is all));
 }
