@@ -1,11 +1,11 @@
-use Rattle.std.proofs.Common.{rules, ◌≡◌, ℕ, ◌<◌, ◌≤◌, ◌⊎◌, List, Bool, true, false, length, get_or, Some, sym, ap, subst, ◌∙◌, arith, ⊎_elim}
+use Rattle.std.proofs.Common.{rules, ◌≡◌, ℕ, ◌<◌, ◌≤◌, ◌⊎◌, List, [], Bool, true, false, length, get_or, Some, sym, ap, subst, ◌∙◌, arith, ⊎_elim}
 use Rattle.std.specs.Prelude.{slice_get}
 use Rattle.std.proofs.Math.ListN.{get_or-map}
 use Rattle.std.proofs.lemmas.Bool.{cases_eq}
 use Rattle.std.proofs.lemmas.List.{length-map}
 use Rattle.std.proofs.lemmas.Option.{slice_get-get_or, slice_get_within}
 use Rattle.job_compiler.specs.Virtual.{instr_of}
-use Rattle.register_choice.specs.Choice.{IsColouredAt, colour_of}
+use Rattle.register_choice.specs.Choice.{IsColouredAt}
 use Rattle.register_choice.proofs.check.is_coloured.Goals as goal
 
 pub loop-place-preserved : goal.loop-place-preserved
@@ -27,11 +27,13 @@ loop-place-preserved c k i low here =
 pub returns : goal.returns
 returns c =
     let first = c.row.ensures in
-    let Begins : List Bool → Type 0 = λ row. (u : ℕ) → get_or row u false ≡ true → ((u < 2) × (colour_of c.args.colours.now 0 u ≡ u)) ⊎ ((2 ≤ u) × (2 ≤ colour_of c.args.colours.now 0 u)) in (
+    let own = c.colours_at.ensures in
+    let Begins : List ℕ → List Bool → Type 0 = λ cs row. (u : ℕ) → get_or row u false ≡ true → ((u < 2) × (get_or cs u 0 ≡ u)) ⊎ ((2 ≤ u) × (2 ≤ get_or cs u 0)) in
+    let start = get_or c.args.colours.now 0 [] in (
       λ yes. record {
-        begins = subst Begins first (c.begins.ensures.0 yes);
+        begins = subst (Begins start) first (subst (λ cs. Begins cs c.row.result.now) own (c.begins.ensures.0 yes));
         places = λ k i here. c.loop-place.invariant k i
             (omega (arith, slice_get_within c.args.code.now k i here, c.loop-place-test.false, ap length c.instrs-instr-items.ensures, length-map c.instrs-instr-items.result.now instr_of)) here;
       },
-      λ good. c.begins.ensures.1 (subst Begins (sym first) good.begins),
+      λ good. c.begins.ensures.1 (subst (λ cs. Begins cs c.row.result.now) (sym own) (subst (Begins start) (sym first) good.begins)),
     )

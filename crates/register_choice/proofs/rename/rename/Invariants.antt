@@ -7,5 +7,6 @@ use Rattle.register_choice.proofs.rename.rename.Given as goal
 abbrev pub invariant-loop-place : goal.invariant-loop-place
 invariant-loop-place l = record {
   items : l.instrs.items ≡ renamed_from l.colours 0 (map instr_of (take l.place l.instr-items));
+  long : length l.instrs.items ≡ l.place;
   room : length l.instr-items ≤ vec_capacity l.instrs;
 }
