@@ -83,6 +83,9 @@ CANCELS = re.compile(r"\bcancel \w+;?")
 FEWEST = {"complete": 0.4, "fault": 0.01}
 """Which share of the programs is at least so."""
 
+MOST_CROWDED = 0.05
+"""Which share of the programs may be refused for registers."""
+
 
 def compiled(program: str, source: str, *words: object) -> tuple[int, str, str]:
     """What arena-compile says of a source, with these words: its status, its output, and standard error."""
@@ -222,6 +225,9 @@ def main(seed: int = 1, programs: int = 400) -> list[str]:
     rare = [it for it, share in FEWEST.items() if seen[it] < share * programs]
     if rare:
         print(f"too few programs are {', '.join(rare)}")
+    if seen["registers"] > MOST_CROWDED * programs:
+        rare.append("registers")
+        print(f"too many programs are refused for registers: {seen['registers']}")
     shown = ", ".join(f"{count} {kind}" for kind, count in sorted(seen.items()))
     print(f"{programs} sources by two compilers ({shown}), {len(BITS)} with bits, {len(COUNTING)} that count, {len(CALLING)} that call, "
           f"{len(WAITING)} that wait, {len(GROUPS)} with groups, {len(INLINES)} with inline functions, {len(PARALLEL)} with parallel loops, {len(ASKING)} with calls and the like inside values, {len(SHARING)} that share, {len(TAKEN)} of the examples, {len(REFUSED)} refused: {len(found)} differences")
