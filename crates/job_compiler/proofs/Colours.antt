@@ -42,7 +42,8 @@ module _ (c : ℕ → ℕ → ℕ) (live : ℕ → ℕ → Bool) (most : ℕ) wh
     same = λ u l. ⊎_elim
         (λ is. subst (λ x. get_or (set vregs d v) x (pos 0) ≡ get_or (set regs (c next d) w) (c next x) (pos 0)) (sym is)
         (get_or-set_same vregs d v (pos 0) (omega (arith, low, s.all)) ∙ e ∙ sym (get_or-set_same regs (c next d) w (pos 0) (omega (arith, low', s.long)))))
-        (λ other. get_or-set_other vregs d u v (pos 0) other ∙ ⊎_elim (λ within. ⊎_elim (λ is. absurd (other is)) (λ (none : ⊥). absurd none) within) (λ was. before k next u vregs regs was s) (flow u l).0
+        (λ other. get_or-set_other vregs d u v (pos 0) other
+        ∙ ⊎_elim (λ within. ⊎_elim (λ is. absurd (other is)) (λ (none : ⊥). absurd none) within) (λ was. before k next u vregs regs was s) (flow u l).0
         ∙ sym (get_or-set_other regs (c next d) (c next u) w (pos 0) ((flow u l).1.0 other)))
         (cases_eq u d);
   }
@@ -70,7 +71,8 @@ module _ (c : ℕ → ℕ → ℕ) (live : ℕ → ℕ → Bool) (most : ℕ) wh
           ∙ sym (get_or-set_other regs (c next d) (c next u) x (pos 0) ((flow u l).1.0 other)))
           (cases_eq u d)
 
-module _ (vprocs procs : List (List Instr)) (slot width p most : ℕ) (c : ℕ → ℕ → ℕ) (live : ℕ → ℕ → Bool) (coloured : IsColoured most (slice_index_or vprocs p []) (slice_index_or procs p []) c live) where
+module _ (vprocs procs : List (List Instr)) (slot width p most : ℕ) (c : ℕ → ℕ → ℕ) (live : ℕ → ℕ → Bool)
+    (coloured : IsColoured most (slice_index_or vprocs p []) (slice_index_or procs p []) c live) where
   abbrev at : ℕ → List ℤ → Frame
   at k regs = record { procedure = p; place = k; registers = regs }
 
@@ -133,7 +135,8 @@ module _ (vprocs procs : List (List Instr)) (slot width p most : ℕ) (c : ℕ �
         (get_or regs (c k a) (pos 0)) (s.same a r.0)
         (λ v v' e. moves_alike d v v' w.0 l.0.0 l.0.1 e)
     by_instr (Rem d a b) h = let l = coloured.low k _ h in let w = coloured.flow k _ h in let r = coloured.read k _ h in
-        divides_alike (Rem d a b) (Rem (c (k + 1) d) (c k a) (c k b)) int_rem d (get_or vregs b (pos 0)) (get_or regs (c k b) (pos 0)) (s.same b r.1.0) (get_or vregs a (pos 0)) (get_or regs (c k a) (pos 0))
+        divides_alike (Rem d a b) (Rem (c (k + 1) d) (c k a) (c k b)) int_rem d (get_or vregs b (pos 0)) (get_or regs (c k b) (pos 0)) (s.same b r.1.0) (get_or vregs a (pos 0))
+        (get_or regs (c k a) (pos 0))
         (s.same a r.0)
         (λ v v' e. moves_alike d v v' w.0 l.0.0 l.0.1 e)
     by_instr (And d a b) h = let l = coloured.low k _ h in let w = coloured.flow k _ h in let r = coloured.read k _ h in moves_alike d _ _ w.0 l.0.0 l.0.1 (two (int_bit_and w64) a b r.0 r.1.0)

@@ -15,7 +15,8 @@ use Rattle.source_language.specs.declared.syntax.Test.{Test}
 use Rattle.source_language.specs.declared.syntax.Test.TheVariants.{Holds, Not', Both', Either'}
 use Rattle.source_language.specs.Meaning.{is_nought, result_of, on_both, value_of, if_true, if_false, test_of}
 use Rattle.job_compiler.specs.Within.{IsWithin, IsTestWithin}
-use Rattle.job_compiler.specs.Code.{op_instr, operand, operand_code, both_code, left_of, right_of, opposed, opposed_code, jump_code, jumps, is_zero, compared, holds_size, holds_code, test_size, test_code}
+use Rattle.job_compiler.specs.Code.{op_instr, operand, operand_code, both_code, left_of, right_of, opposed, opposed_code}
+use Rattle.job_compiler.specs.Code.{jump_code, jumps, is_zero, compared, holds_size, holds_code, test_size, test_code}
 use Rattle.job_compiler.proofs.Opposites.{compared_same, AreOpposed, below_opposed, at_most_opposed, equal_opposed, minus_opposed}
 use Rattle.job_compiler.proofs.Values.{FitsIf, value_fits}
 use Rattle.job_compiler.proofs.Steps.{AreAllKept, Agree, at, HasAt, has_front, has_back, Comes, Fails, comes_on, fails_on, one_step, BringsIf, Brings, operand_runs, exchanged_runs, still}

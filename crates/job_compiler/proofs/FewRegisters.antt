@@ -17,7 +17,8 @@ use Rattle.source_language.specs.declared.syntax.Stmt.{Stmt}
 use Rattle.source_language.specs.declared.syntax.Stmt.TheVariants.{Skip, Then', Assign, If', Loop', Repeat', Break, Continue, Return, Make, Wait, Cancel, Read, Store}
 use Rattle.source_language.specs.declared.syntax.Function.{Function}
 use Rattle.job_compiler.specs.declared.labels.Label.{Label}
-use Rattle.job_compiler.specs.Code.{op_instr, operand, above, is_right_first, left_free, right_free, in_order, register_for, operand_code, value_code, both_code, left_of, right_of, opposed, opposed_code}
+use Rattle.job_compiler.specs.Code.{op_instr, operand, above, is_right_first, left_free, right_free, in_order, register_for}
+use Rattle.job_compiler.specs.Code.{operand_code, value_code, both_code, left_of, right_of, opposed, opposed_code}
 use Rattle.job_compiler.specs.Code.{jump_code, compared, holds_code, over_size, over_code, test_size}
 use Rattle.job_compiler.specs.Code.{test_code, make_instr}
 use Rattle.job_compiler.specs.Code.{read_instr, stmt_size, stmt_code, loop_test}

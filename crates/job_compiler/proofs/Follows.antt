@@ -21,7 +21,8 @@ use Rattle.source_language.specs.declared.syntax.Question.TheVariants.{Cancelled
 use Rattle.source_language.specs.Meaning.{Returns, Stores, Todo, Do, Turn, Next, Point, Act, Does, next_turn, past_loop, with_value, with_test, goes, made_by, asked_by, put_into, act_of, act_on}
 use Rattle.source_language.specs.Meaning.{answered, value_of, test_of}
 use Rattle.job_compiler.specs.Within.{IsStmtWithin, IsMakerWithin}
-use Rattle.job_compiler.specs.Code.{operand, operand_code, both_code, left_of, right_of, value_code, make_instr, read_instr, over_size, over_code, test_size, test_code, stmt_size, loop_test, loop_end, loop_label}
+use Rattle.job_compiler.specs.Code.{operand, operand_code, both_code, left_of, right_of, value_code, make_instr, read_instr}
+use Rattle.job_compiler.specs.Code.{over_size, over_code, test_size, test_code, stmt_size, loop_test, loop_end, loop_label}
 use Rattle.job_compiler.specs.Code.{after_of, next_of, register_for}
 use Rattle.job_compiler.specs.Code.{stmt_code}
 use Rattle.job_compiler.specs.declared.labels.Label.{Label}

@@ -15,7 +15,8 @@ use Rattle.source_language.specs.declared.syntax.Stmt.{Stmt}
 use Rattle.source_language.specs.declared.syntax.Stmt.TheVariants.{Skip, Then', Assign, If', Loop', Repeat', Break, Continue, Return, Make, Wait, Cancel, Read, Store}
 use Rattle.source_language.specs.Meaning.{Operation, Todo, Do, Turn, Next, Point, Act, Goes, Divides, Does, next_turn, past_loop, put_into, answered}
 use Rattle.job_compiler.specs.Within.{IsTestWithin, IsStmtWithin, IsOneWithin}
-use Rattle.job_compiler.specs.Code.{operand, operand_code, both_code, left_of, right_of, make_instr, over_size, over_code, test_size, test_code, stmt_size, loop_test, loop_end, loop_label, after_of, next_of, loop_code}
+use Rattle.job_compiler.specs.Code.{operand, operand_code, both_code, left_of, right_of, make_instr}
+use Rattle.job_compiler.specs.Code.{over_size, over_code, test_size, test_code, stmt_size, loop_test, loop_end, loop_label, after_of, next_of, loop_code}
 use Rattle.job_compiler.specs.Code.{register_for, stmt_code}
 use Rattle.job_compiler.specs.declared.labels.Label.{Label}
 use Rattle.job_compiler.specs.Operations.{operation_of, resumed}

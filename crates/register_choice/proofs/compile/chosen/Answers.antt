@@ -22,5 +22,6 @@ returns-then-is_valid_proc-clause-compiled c f good is =
 pub returns-then-is_valid_proc-clause-calls : goal.returns-then-is_valid_proc-clause-calls
 returns-then-is_valid_proc-clause-calls c f is has = record {
   code = has;
-  calls = λ n all. subst (All (Calls n)) (sym (c.new.ensures ∙ c.in_ok-instrs.ensures ∙ ap (λ cs. renamed_from cs 0 c.args.code.now) c.deref-2.ensures.value)) (all_named c.choose-colours.result.items 0 n c.args.code.now (subst (All (Calls n)) is all));
+  calls = λ n all. subst (All (Calls n)) (sym (c.new.ensures ∙ c.in_ok-instrs.ensures ∙ ap (λ cs. renamed_from cs 0 c.args.code.now) c.deref-2.ensures.value))
+      (all_named c.choose-colours.result.items 0 n c.args.code.now (subst (All (Calls n)) is all));
 }
