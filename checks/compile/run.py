@@ -31,6 +31,7 @@ from arena.language import SourceFault, compile_source  # noqa: E402
 from arena.language.examples import examples_of, unit_of  # noqa: E402
 from arena.replies import Complete, Fault, FaultCode  # noqa: E402
 from arena.trace.rehearsal import rehearse  # noqa: E402
+from fitting_sources import FITTING  # noqa: E402
 from group_sources import GROUPS  # noqa: E402
 from inline_sources import INLINES  # noqa: E402
 from parallel_sources import PARALLEL  # noqa: E402
@@ -165,6 +166,13 @@ def serial_difference(program: str, source: str, arguments: tuple[int, int], wan
     return ""
 
 
+def fitting_difference(program: str, source: str, arguments: tuple[int, int], draws: random.Random) -> str:
+    """What is wrong with a source that may not be refused, if something is."""
+    seen = Counter[str]()
+    said = difference(program, source, arguments, draws, seen)
+    return said or (f"refused, of arguments {arguments}:\n{source}" if not seen["complete"] else "")
+
+
 def example_differences(program: str, draws: random.Random) -> list[str]:
     """What is wrong with the examples that it takes: what they give, and which they are."""
     found, taken = [], set()
@@ -217,6 +225,7 @@ def main(seed: int = 1, programs: int = 400) -> list[str]:
         found += [said] if said else []
     found += [said for source, arguments in (*BITS, *COUNTING, *CALLING, *WAITING, *GROUPS, *INLINES, *PARALLEL, *ASKING) if (said := difference(program, source, arguments, draws, Counter()))]
     found += [said for source, arguments, cells in SHARING if (said := difference(program, source, arguments, draws, Counter(), cells))]
+    found += [said for source, arguments in FITTING if (said := fitting_difference(program, source, arguments, draws))]
     found += example_differences(program, draws)
     found += [said for source, place in REFUSED if (said := refused_difference(program, source, place))]
     found += wrong_replies(program)
@@ -230,7 +239,7 @@ def main(seed: int = 1, programs: int = 400) -> list[str]:
         print(f"too many programs are refused for registers: {seen['registers']}")
     shown = ", ".join(f"{count} {kind}" for kind, count in sorted(seen.items()))
     print(f"{programs} sources by two compilers ({shown}), {len(BITS)} with bits, {len(COUNTING)} that count, {len(CALLING)} that call, "
-          f"{len(WAITING)} that wait, {len(GROUPS)} with groups, {len(INLINES)} with inline functions, {len(PARALLEL)} with parallel loops, {len(ASKING)} with calls and the like inside values, {len(SHARING)} that share, {len(TAKEN)} of the examples, {len(REFUSED)} refused: {len(found)} differences")
+          f"{len(WAITING)} that wait, {len(GROUPS)} with groups, {len(INLINES)} with inline functions, {len(PARALLEL)} with parallel loops, {len(ASKING)} with calls and the like inside values, {len(SHARING)} that share, {len(FITTING)} that just fit, {len(TAKEN)} of the examples, {len(REFUSED)} refused: {len(found)} differences")
     return found or rare
 
 
