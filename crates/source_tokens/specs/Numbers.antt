@@ -35,3 +35,23 @@ magnitude_of bs = if is_hex bs then with_digits 16 0 (drop 2 bs) else with_digit
 -- From 2^63 on a number stands for the one with a sign that has the same bits.
 abbrev pub number_of : List ℕ → Option ℤ
 number_of bs = option_map (cast_signed w64) (magnitude_of bs)
+
+-- a digit from 1 on; 0 if it is none
+abbrev pub digit_from_one : ℕ → ℕ
+digit_from_one b = if nat_le 49 b && nat_le b 57 then b - 48 else 0
+
+-- the number of two digits from 10 to 62; 0 if they write no such number
+abbrev pub two_digits : ℕ → ℕ → ℕ
+two_digits a b = if (nat_lt 0 (digit_from_one a) && is_digit b) && nat_le (digit_from_one a * 10 + (b - 48)) 62 then digit_from_one a * 10 + (b - 48) else 0
+
+-- the number of bits that digits write, from 1 to 62; 0 if they write none
+abbrev pub bits_written : List ℕ → ℕ
+bits_written [] = 0
+bits_written (a ∷ []) = digit_from_one a
+bits_written (a ∷ b ∷ []) = two_digits a b
+bits_written (a ∷ b ∷ c ∷ bs) = 0
+
+-- how many bits a width says, which is `u1` to `u62`; 0 if it is none
+abbrev pub width_of : List ℕ → ℕ
+width_of [] = 0
+width_of (b ∷ bs) = if b == 117 then bits_written bs else 0

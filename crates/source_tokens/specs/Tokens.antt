@@ -6,7 +6,7 @@ use Rattle.source_tokens.specs.declared.tokens.Kind.{Kind}
 use Rattle.source_tokens.specs.declared.tokens.Kind.TheVariants as kind
 use Rattle.source_tokens.specs.declared.tokens.Token.{Token}
 use Rattle.source_tokens.specs.Bytes.{is_space, is_digit, is_letter}
-use Rattle.source_tokens.specs.Numbers.{number_of}
+use Rattle.source_tokens.specs.Numbers.{number_of, width_of}
 use Rattle.source_tokens.specs.Words.{kind_named}
 use Rattle.source_tokens.specs.Lexemes.{lexemes_of}
 
@@ -47,9 +47,9 @@ kind_or None k' = k'
 abbrev pub kind_of : List ℕ → List (ℕ × List ℕ) → Kind
 kind_of text all = kind_or (kind_named text) (other_kind text all)
 
--- the token of a lexeme, if it has one
+-- The token of a lexeme, if it has one. What is a width behind `:` is a name elsewhere.
 abbrev pub token_of : List (ℕ × List ℕ) → ℕ × List ℕ → List Token
-token_of all l = if is_blank l.1 then [] else record { kind = kind_of l.1 all; at = l.0 } ∷ []
+token_of all l = if is_blank l.1 then [] else record { kind = kind_of l.1 all; at = l.0; bits = width_of l.1 } ∷ []
 
 abbrev pub tokens_of : List ℕ → List Token
 tokens_of text = flat_map (token_of (lexemes_of text)) (lexemes_of text)

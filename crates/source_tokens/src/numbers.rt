@@ -1,6 +1,6 @@
 // Numbers of a source.
 ghost use Rattle.std.specs.Prelude.{◌≡◌, ◌+◌, ◌*◌, drop};
-ghost use Rattle.source_tokens.specs.Numbers.{digit_worth, if_fits, digit_added, with_digits, is_hex, magnitude_of, number_of};
+ghost use Rattle.source_tokens.specs.Numbers.{digit_worth, if_fits, digit_added, with_digits, is_hex, magnitude_of, number_of, digit_from_one, two_digits, bits_written, width_of};
 
 use crate::bytes::is_digit;
 
@@ -85,4 +85,54 @@ pub(crate) fn number_of(text: &[u8]) -> Option<i64>
     ensures { result ≡ number_of text.now }
 {
     Some(magnitude_of(text)?.cast_signed())
+}
+
+/// A digit from 1 on; 0 if it is none.
+fn digit_from_one(byte: u8) -> u8
+    ensures { result ≡ digit_from_one byte }
+{
+    if 49 <= byte && byte <= 57 {
+        byte - 48
+    } else {
+        0
+    }
+}
+
+/// The number of two digits from 10 to 62; 0 if they write no such number.
+fn two_digits(first: u8, second: u8) -> u8
+    ensures { result ≡ two_digits first second }
+{
+    let tens = digit_from_one(first);
+    if 0 < tens && is_digit(second) && tens * 10 + (second - 48) <= 62 {
+        tens * 10 + (second - 48)
+    } else {
+        0
+    }
+}
+
+/// The number of bits that digits write, from 1 to 62; 0 if they write none.
+fn bits_written(text: &[u8]) -> u8
+    ensures { result ≡ bits_written text.now }
+{
+    match text {
+        [first] => digit_from_one(*first),
+        [first, second] => two_digits(*first, *second),
+        _ => 0,
+    }
+}
+
+/// How many bits a width says, which is `u1` to `u62`; 0 if it is none.
+pub(crate) fn width_of(text: &[u8]) -> u8
+    ensures { result ≡ width_of text.now }
+{
+    match text.split_first() {
+        Some((first, rest)) => {
+            if *first == b'u' {
+                bits_written(rest)
+            } else {
+                0
+            }
+        }
+        None => 0,
+    }
 }

@@ -5,7 +5,7 @@ ghost use Rattle.source_tokens.specs.Tokens.{is_blank, first_with, number_kind, 
 
 use crate::bytes::{is_digit, is_letter, is_space};
 use crate::lexemes::{Lexeme, lexemes_of};
-use crate::numbers::number_of;
+use crate::numbers::{number_of, width_of};
 use crate::tokens::{Kind, Token};
 use crate::words::kind_named;
 use std::alloc::{AllocError, Global};
@@ -94,6 +94,7 @@ fn add_token(out: &mut Vec<Token>, lexeme: &Lexeme, all: &[Lexeme]) -> Result<()
         out.push(Token {
             kind: kind_of(lexeme.text, all),
             at: lexeme.at,
+            bits: width_of(lexeme.text),
         })?;
     }
     Ok(())

@@ -120,4 +120,6 @@ pub enum Kind {
 pub struct Token {
     pub kind: Kind,
     pub at: usize,
+    /// How many bits it says, if its text is a width: `u1` to `u62`, which is a name elsewhere. Else 0.
+    pub bits: u8,
 }
