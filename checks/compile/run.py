@@ -1,7 +1,7 @@
 #!/usr/bin/env python3
 """Compares arena-compile with the compiler in Python, and both with the interpreter of checks/python, which was written from
 docs/LANGUAGE.md alone, on drawn sources, and on some with numbers, bits, loops that count, constants, calls, tasks, groups, cells,
-inline functions, parallel loops, and calls inside values, at their edges: what both make is rehearsed on drawn schedules, and what `arena-compile --serial` prints must
+inline functions, parallel loops, calls inside values, and widths, at their edges: what both make is rehearsed on drawn schedules, and what `arena-compile --serial` prints must
 be the line of the interpreter's value. Of the examples in examples/jobs those that it takes must give what they say. Sources with
 faults must be refused at the first one. The last line says how many.
 
@@ -40,6 +40,7 @@ from refused_places import REFUSED  # noqa: E402
 from sharing_sources import SHARING  # noqa: E402
 from unproved import built  # noqa: E402
 from waiting_sources import WAITING  # noqa: E402
+from width_sources import PACKED, WIDTHS  # noqa: E402
 
 LIMITS = {"this function needs more than 8 registers": "registers", "this function is too long for a procedure": "instructions",
           "needs more than 8 registers": "registers", "a procedure has at most": "instructions"}
@@ -68,8 +69,8 @@ REPLIES = (
 )
 """Sources, the words for arena-compile, its status, its output, and standard error up to a colon and a space."""
 
-TAKEN = {"fib.job", "hash.job", "keeper.job", "longest.job", "patient.job", "posted.job", "primes.job", "queens.job", "search.job", "serial.job",
-         "sum.job"}
+TAKEN = {"divisors.job", "fib.job", "hash.job", "keeper.job", "longest.job", "patient.job", "posted.job", "primes.job", "queens.job", "search.job",
+         "serial.job", "sum.job"}
 """The examples that arena-compile takes."""
 
 MOST_FUEL = 1.3
@@ -173,6 +174,13 @@ def fitting_difference(program: str, source: str, arguments: tuple[int, int], dr
     return said or (f"refused, of arguments {arguments}:\n{source}" if not seen["complete"] else "")
 
 
+def packed_difference(program: str, source: str, arguments: tuple[int, int], draws: random.Random) -> str:
+    """What is wrong with a source that only the compiler in Python knows the value of, if something is."""
+    status, output, said = compiled(program, source, *arguments)
+    found, python = said if status else ended(json.loads(output), draws), of_python(source, arguments, draws)
+    return "" if found == python else f"{found}, and in Python {python}, of arguments {arguments}:\n{source}"
+
+
 def example_differences(program: str, draws: random.Random) -> list[str]:
     """What is wrong with the examples that it takes: what they give, and which they are."""
     found, taken = [], set()
@@ -223,7 +231,8 @@ def main(seed: int = 1, programs: int = 400) -> list[str]:
         source, arguments = sources.source(), (draws.randint(-5, 9), draws.randint(-5, 9))
         said = difference(program, source, arguments, draws, seen)
         found += [said] if said else []
-    found += [said for source, arguments in (*BITS, *COUNTING, *CALLING, *WAITING, *GROUPS, *INLINES, *PARALLEL, *ASKING) if (said := difference(program, source, arguments, draws, Counter()))]
+    found += [said for source, arguments in (*BITS, *COUNTING, *CALLING, *WAITING, *GROUPS, *INLINES, *PARALLEL, *ASKING, *WIDTHS) if (said := difference(program, source, arguments, draws, Counter()))]
+    found += [said for source, arguments in PACKED if (said := packed_difference(program, source, arguments, draws))]
     found += [said for source, arguments, cells in SHARING if (said := difference(program, source, arguments, draws, Counter(), cells))]
     found += [said for source, arguments in FITTING if (said := fitting_difference(program, source, arguments, draws))]
     found += example_differences(program, draws)
@@ -239,7 +248,7 @@ def main(seed: int = 1, programs: int = 400) -> list[str]:
         print(f"too many programs are refused for registers: {seen['registers']}")
     shown = ", ".join(f"{count} {kind}" for kind, count in sorted(seen.items()))
     print(f"{programs} sources by two compilers ({shown}), {len(BITS)} with bits, {len(COUNTING)} that count, {len(CALLING)} that call, "
-          f"{len(WAITING)} that wait, {len(GROUPS)} with groups, {len(INLINES)} with inline functions, {len(PARALLEL)} with parallel loops, {len(ASKING)} with calls and the like inside values, {len(SHARING)} that share, {len(FITTING)} that just fit, {len(TAKEN)} of the examples, {len(REFUSED)} refused: {len(found)} differences")
+          f"{len(WAITING)} that wait, {len(GROUPS)} with groups, {len(INLINES)} with inline functions, {len(PARALLEL)} with parallel loops, {len(ASKING)} with calls and the like inside values, {len(WIDTHS) + len(PACKED)} with widths, {len(SHARING)} that share, {len(FITTING)} that just fit, {len(TAKEN)} of the examples, {len(REFUSED)} refused: {len(found)} differences")
     return found or rare
 
 

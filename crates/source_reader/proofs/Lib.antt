@@ -3,3 +3,5 @@ pub mod StmtSteps
 pub mod FunctionSteps
 pub mod ItemSteps
 pub mod ParameterSteps
+pub mod BodySteps
+pub mod WidthSteps

@@ -1,5 +1,5 @@
 -- Functions.
-use Rattle.std.specs.Prelude.{ℕ, zero, suc, ◌+◌, ◌==◌, ◌||◌, nat_lt, Bool, true, false, List, [], ◌∷◌, ◌++◌, drop, length, Option, Some, None, Result, Ok, Err, if◌then◌else◌}
+use Rattle.std.specs.Prelude.{ℕ, zero, suc, ◌==◌, ◌||◌, nat_lt, Bool, true, false, List, [], ◌∷◌, ◌++◌, drop, Option, Some, None, Result, Ok, Err, if◌then◌else◌}
 use Rattle.source_language.specs.declared.syntax.Maker.{Maker}
 use Rattle.source_language.specs.declared.syntax.Maker.TheVariants as maker
 use Rattle.source_tokens.specs.declared.tokens.Kind.{Kind}
@@ -8,17 +8,15 @@ use Rattle.source_tokens.specs.declared.tokens.Token.{Token}
 use Rattle.source_reader.specs.declared.faults.Fault.{Fault}
 use Rattle.source_reader.specs.declared.faults.Wrong.TheVariants as wrong
 use Rattle.source_reader.specs.declared.functions.Named.{Named}
-use Rattle.source_reader.specs.declared.functions.Parameters.{Parameters}
-use Rattle.source_reader.specs.declared.functions.TheConstants.{BODY_FUEL}
 use Rattle.source_reader.specs.Faults.{◌>>=◌, fault_at}
 use Rattle.source_reader.specs.Trees.{StmtTree, FunctionTree, function_tree_of, SkipTree, ThenTree, AssignTree, IfTree, LoopTree, RepeatTree, BreakTree, ContinueTree, ReturnTree, MakeTree, WaitTree}
 use Rattle.source_reader.specs.Trees.{CancelTree, ReadTree, StoreTree}
-use Rattle.source_reader.specs.declared.names.Meaning.TheVariants as meaning
-use Rattle.source_reader.specs.Names.{Scope, WithName, number_after}
-use Rattle.source_reader.specs.Lines.{after_comma, after_line_ends, free_name, item_ended}
-use Rattle.source_reader.specs.Simple.{ReadStmt}
-use Rattle.source_reader.specs.Statements.{Block, stmt_at}
-use Rattle.source_reader.specs.Marks.{unexpected, after_open, after_close, is_close}
+use Rattle.source_reader.specs.Names.{Scope, number_after}
+use Rattle.source_reader.specs.Lines.{after_line_ends, free_name, item_ended}
+use Rattle.source_reader.specs.Marks.{unexpected, after_open}
+use Rattle.source_reader.specs.Widths.{widths_in}
+use Rattle.source_reader.specs.Layouts.{first_variable, with_unpacking}
+use Rattle.source_reader.specs.Bodies.{inside_at}
 
 abbrev pub larger : ℕ → ℕ → ℕ
 larger a b = if nat_lt a b then b else a
@@ -89,33 +87,13 @@ abbrev pub function_name : Scope → List (Option ℕ) → List Token → Result
 function_name names known [] = unexpected []
 function_name names known (t ∷ ts) = function_name_of t.kind names known (t ∷ ts)
 
-abbrev pub second_name : ℕ → Scope → List Token → Result ℕ Fault
-second_name x names ts = free_name names ts >>= λ y. if y == x then Err (fault_at ts wrong.KnownName) else Ok y
+-- a function with parameters of these widths, and with that body
+abbrev pub function_of : (widths : List ℕ) → StmtTree → FunctionTree
+function_of bs s = record { variables = larger 2 (variables_of (with_unpacking bs s)); body = with_unpacking bs s }
 
-abbrev pub second_parameter : ℕ → Scope → List Token → Result (Parameters × List Token) Fault
-second_parameter x names ts = do
-  rest ← after_comma ts
-  y ← second_name x names rest
-  after ← after_close (drop 1 rest)
-  Ok (record { first = Some x; second = Some y }, after)
-
-abbrev pub first_parameter : Scope → List Token → Result (Parameters × List Token) Fault
-first_parameter names ts = free_name names ts >>= λ x. if is_close (drop 1 ts) then Ok (record { first = Some x; second = None }, drop 1 (drop 1 ts)) else second_parameter x names (drop 1 ts)
-
--- behind `(`, with what follows `)`
-abbrev pub parameters_at : Scope → List Token → Result (Parameters × List Token) Fault
-parameters_at names ts = if is_close ts then Ok (record { first = None; second = None }, drop 1 ts) else first_parameter names ts
-
-abbrev pub second_of : ℕ → Option ℕ → Scope → Scope
-second_of x None names = WithName x (meaning.Variable 0) names
-second_of x (Some y) names = WithName y (meaning.Variable 1) (WithName x (meaning.Variable 0) names)
-
-abbrev pub names_in : Option ℕ → Option ℕ → Scope → Scope
-names_in None second names = names
-names_in (Some x) second names = second_of x second names
-
-abbrev pub body_at : Scope → Parameters → List Token → ReadStmt
-body_at names p ts = stmt_at BODY_FUEL (names_in p.first p.second names) (Block false) ts
+abbrev pub is_first : List (Option ℕ) → Bool
+is_first [] = true
+is_first (first ∷ others) = false
 
 -- a function, its name, and what follows it
 pub record NamedTree : Type 0 where
@@ -131,9 +109,8 @@ function_at names known ts = do
   named ← after_fn ts
   name ← function_name names known named
   inside ← after_open (drop 1 named)
-  ps ← parameters_at names inside
-  body ← body_at names ps.0 ps.1
-  Ok (record { name = name; function = record { variables = larger 2 (variables_of body.0); body = body.0 }; rest = body.1 })
+  body ← inside_at (is_first known) names (first_variable (widths_in inside)) inside
+  Ok (record { name = name; function = function_of (widths_in inside) body.0; rest = body.1 })
 
 abbrev pub Items : Type 0
 Items = List (Option ℕ) → List FunctionTree → List Token → Result (List FunctionTree) Fault

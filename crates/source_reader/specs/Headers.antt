@@ -6,10 +6,9 @@ use Rattle.source_tokens.specs.declared.tokens.Kind.TheVariants as kind
 use Rattle.source_tokens.specs.declared.tokens.Token.{Token}
 use Rattle.source_reader.specs.declared.headers.Title.{Title}
 use Rattle.source_reader.specs.declared.headers.Title.TheVariants as title
-use Rattle.source_reader.specs.declared.headers.Header.{Header}
-use Rattle.source_reader.specs.declared.headers.Callee.{Callee}
 use Rattle.source_reader.specs.Names.{number_after}
-use Rattle.source_reader.specs.Marks.{is_close}
+use Rattle.source_reader.specs.Trees.{HeaderTree, CalleeTree}
+use Rattle.source_reader.specs.Widths.{widths_in}
 
 abbrev pub is_fn : Kind → Bool
 is_fn kind.Fn = true
@@ -32,15 +31,11 @@ abbrev pub title_at : List Token → Title
 title_at [] = title.Missing
 title_at (t ∷ ts) = title_of t.kind
 
--- Behind `(` there is `)`, or a name and then `)`, or else there are two names.
-abbrev pub parameters_in : List Token → ℕ
-parameters_in ts = if is_close ts then 0 else (if is_close (drop 1 ts) then 1 else 2)
-
 -- behind `fn`
-abbrev pub header_of : List Token → Header
-header_of ts = record { title = title_at ts; parameters = parameters_in (drop 1 (drop 1 ts)) }
+abbrev pub header_of : List Token → HeaderTree
+header_of ts = record { title = title_at ts; widths = widths_in (drop 1 (drop 1 ts)) }
 
-abbrev pub headers_behind : (behind_inline : Bool) → List Token → List Header
+abbrev pub headers_behind : (behind_inline : Bool) → List Token → List HeaderTree
 headers_behind b [] = []
 headers_behind b (t ∷ ts) = if begins b t.kind then header_of ts ∷ headers_behind (is_inline t.kind) ts else headers_behind (is_inline t.kind) ts
 
@@ -48,13 +43,13 @@ abbrev pub gathers_of : Kind → Option Gathers
 gathers_of (kind.Gathers g) = Some g
 gathers_of k = None
 
--- the functions of parallel loops: each is known by how many tokens are behind its word, and has both ends as parameters
-abbrev pub gathering_headers : List Token → List Header
+-- the functions of parallel loops: each is known by how many tokens are behind its word, and no call with parameters names it
+abbrev pub gathering_headers : List Token → List HeaderTree
 gathering_headers [] = []
-gathering_headers (t ∷ ts) = if is_some (gathers_of t.kind) then record { title = title.Gathering (length ts); parameters = 2 } ∷ gathering_headers ts else gathering_headers ts
+gathering_headers (t ∷ ts) = if is_some (gathers_of t.kind) then record { title = title.Gathering (length ts); widths = [] } ∷ gathering_headers ts else gathering_headers ts
 
 -- first those of the source, and then those of parallel loops
-abbrev pub headers_of : List Token → List Header
+abbrev pub headers_of : List Token → List HeaderTree
 headers_of ts = headers_behind false ts ++ gathering_headers ts
 
 abbrev pub is_same : Title → Title → Bool
@@ -64,6 +59,6 @@ is_same (title.Gathering n) (title.Gathering m) = n == m
 is_same s t = false
 
 -- the first function of that title, if the first of all has that number
-abbrev pub callee_in : Title → List Header → (number : ℕ) → Option Callee
+abbrev pub callee_in : Title → List HeaderTree → (number : ℕ) → Option CalleeTree
 callee_in t [] n = None
-callee_in t (h ∷ hs) n = if is_same t h.title then Some (record { number = n; parameters = h.parameters }) else callee_in t hs (number_after n)
+callee_in t (h ∷ hs) n = if is_same t h.title then Some (record { number = n; widths = h.widths }) else callee_in t hs (number_after n)

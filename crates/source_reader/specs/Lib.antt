@@ -12,6 +12,8 @@ pub mod Values
 pub mod Constants
 pub mod Lines
 pub mod Parameters
+pub mod Widths
+pub mod Layouts
 pub mod Headers
 pub mod Calls
 pub mod Ranges
@@ -27,6 +29,7 @@ pub mod Counting
 pub mod Halving
 pub mod Giving
 pub mod Statements
+pub mod Bodies
 pub mod Functions
 pub mod Gathering
 pub mod Keys

@@ -1,5 +1,5 @@
 -- What a place sees: names with their meanings, the last one first, and the functions of the source.
-use Rattle.std.specs.Prelude.{ℕ, Bool, true, false, List, Option, Some, None, Result, Ok, Err, ◌+◌, ◌==◌, nat_lt, if◌then◌else◌}
+use Rattle.std.specs.Prelude.{ℕ, Bool, true, false, List, map, Option, Some, None, Result, Ok, Err, ◌+◌, ◌==◌, nat_lt, if◌then◌else◌}
 use Rattle.std.specs.Option.{option_map}
 use Rattle.source_tokens.specs.declared.tokens.Gathers.{Gathers}
 use Rattle.source_tokens.specs.declared.tokens.Token.{Token}
@@ -14,14 +14,13 @@ use Rattle.source_reader.specs.declared.names.TaskGroup.{TaskGroup}
 use Rattle.source_reader.specs.declared.names.TaskGroup.TheVariants as task_group
 use Rattle.source_reader.specs.declared.names.Names.{Names}
 use Rattle.source_reader.specs.declared.names.Names.TheVariants as names
-use Rattle.source_reader.specs.declared.headers.Header.{Header}
-use Rattle.source_reader.specs.Trees.{InlineTree, inline_tree_of}
+use Rattle.source_reader.specs.Trees.{HeaderTree, InlineTree, header_tree_of, inline_tree_of}
 
 -- `Waited` stands behind a wait for the task of a group, and `Inner` is the beginning of a block inside the function's own.
 -- `Gathering` is the beginning of the body of a parallel loop, which is its function's own.
 -- `Asked` stands behind what gives a value inside another one: how many tokens are left where it begins, and behind it, and the variable that has its value.
 pub data Scope : Type 0 where
-  Functions : List Header → Scope
+  Functions : List HeaderTree → Scope
   WithName : ℕ → Meaning → Scope → Scope
   WithInline : ℕ → InlineTree → Scope → Scope
   Waited : TaskGroup → Scope → Scope
@@ -30,7 +29,7 @@ pub data Scope : Type 0 where
   Asked : (left behind variable : ℕ) → Scope → Scope
 
 abbrev pub names_of : Names → Scope
-names_of (names.Functions hs) = Functions hs.now
+names_of (names.Functions hs) = Functions (map header_tree_of hs.now)
 names_of (names.Name' x m p others) = WithName x m (names_of others)
 names_of (names.Inline' x f p others) = WithInline x (inline_tree_of f.now) (names_of others)
 names_of (names.Waited' g p others) = Waited g (names_of others)
@@ -79,7 +78,7 @@ inline_of x (Gathering g others) = inline_of x others
 inline_of x (Asked left b v others) = inline_of x others
 
 -- the functions of the source, in its order
-abbrev pub functions_in : Scope → List Header
+abbrev pub functions_in : Scope → List HeaderTree
 functions_in (Functions hs) = hs
 functions_in (WithName x m others) = functions_in others
 functions_in (WithInline x f others) = functions_in others

@@ -1,5 +1,5 @@
 -- Trees without where they lie in memory.
-use Rattle.std.specs.Prelude.{ℕ, ℤ, Option}
+use Rattle.std.specs.Prelude.{ℕ, ℤ, List, Option}
 use Rattle.source_language.specs.declared.syntax.Operator.{Operator}
 use Rattle.source_language.specs.declared.syntax.Expr.{Expr}
 use Rattle.source_language.specs.declared.syntax.Expr.TheVariants as expr
@@ -10,6 +10,9 @@ use Rattle.source_language.specs.declared.syntax.Question.{Question}
 use Rattle.source_language.specs.declared.syntax.Stmt.{Stmt}
 use Rattle.source_language.specs.declared.syntax.Stmt.TheVariants as stmt
 use Rattle.source_language.specs.declared.syntax.Function.{Function}
+use Rattle.source_reader.specs.declared.headers.Title.{Title}
+use Rattle.source_reader.specs.declared.headers.Header.{Header}
+use Rattle.source_reader.specs.declared.headers.Callee.{Callee}
 use Rattle.source_reader.specs.declared.inlines.Inline.{Inline}
 use Rattle.source_reader.specs.declared.joining.Value.{Value}
 use Rattle.source_reader.specs.declared.joining.Value.TheVariants as value
@@ -96,3 +99,19 @@ pub record FunctionTree : Type 0 where
 
 abbrev pub function_tree_of : Function → FunctionTree
 function_tree_of f = record { variables = f.variables; body = stmt_tree_of f.body }
+
+-- what the others know of a function: its name, and the widths of its parameters, 0 for none
+pub record HeaderTree : Type 0 where
+  pub title : Title
+  pub widths : List ℕ
+
+abbrev pub header_tree_of : Header → HeaderTree
+header_tree_of h = record { title = h.title; widths = h.widths.items }
+
+-- a function that is called: its number, and the widths of its parameters
+pub record CalleeTree : Type 0 where
+  pub number : ℕ
+  pub widths : List ℕ
+
+abbrev pub callee_tree_of : Callee → CalleeTree
+callee_tree_of c = record { number = c.number; widths = c.widths.now }

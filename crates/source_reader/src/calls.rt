@@ -1,15 +1,16 @@
 // Functions that are run: called, spawned, as regions, or posted.
-ghost use Rattle.std.specs.Prelude.{◌≡◌, IfOk};
-ghost use Rattle.source_reader.specs.Calls.{found, callee_titled, callee_at, argument_at, view_arguments, no_argument, one_argument, two_arguments, arguments_at, made, if_group_left, run_at, spawn_at, is_spawn};
+ghost use Rattle.std.specs.Prelude.{◌≡◌, IfOk, option_map};
+ghost use Rattle.source_reader.specs.Calls.{found, callee_titled, callee_at, argument_at, view_arguments, no_arguments, no_argument, does_fit, if_fits, with_argument, behind_argument, arguments_from, arguments_at, made, if_group_left, run_at, spawn_at, is_spawn};
 ghost use Rattle.source_reader.specs.Faults.{Gives};
 ghost use Rattle.source_reader.specs.Headers.{callee_in};
 ghost use Rattle.source_reader.specs.Names.{names_of, functions_in};
-ghost use Rattle.source_reader.specs.Trees.{tree_of, stmt_tree_of};
-ghost use Rattle.source_reader.specs.Marks.{after_last, before_next};
+ghost use Rattle.source_reader.specs.Trees.{callee_tree_of, tree_of, stmt_tree_of};
 
 use crate::faults::{ReadError, Wrong, fault_at};
+use crate::folding::right;
 use crate::headers::{Callee, Title, callee_in, title_at};
 use crate::joining::number_in;
+use crate::layouts::{Taken, nothing_taken, packed_with, with_one};
 use crate::marks::{after_first, after_last, after_open, before_next, is_close};
 use crate::names::{Names, TaskGroup};
 use crate::tasks::{Reach, free_group, group_of, task_in};
@@ -24,8 +25,9 @@ use std::alloc::{AllocError, Global};
 pub const CALLS: u64 = 0;
 
 /// The function of that name.
-fn callee_of(title: Title, names: &Names) -> Option<Callee>
-    ensures { result ≡ callee_in title (functions_in (names_of names.now)) 0 }
+fn callee_of<'a>(title: Title, names: &'a Names) -> Option<Callee<'a>>
+    ensures { option_map callee_tree_of result
+        ≡ callee_in title (functions_in (names_of names.entry.now)) 0 }
 {
     match names {
         Names::Functions(functions) => callee_in(title, functions, 0),
@@ -38,8 +40,8 @@ fn callee_of(title: Title, names: &Names) -> Option<Callee>
     }
 }
 
-fn found(callee: Option<Callee>, tokens: &[Token]) -> Result<Callee, ReadError>
-    ensures { Gives (λ f. f) result (found callee tokens.now) }
+fn found<'a>(callee: Option<Callee<'a>>, tokens: &[Token]) -> Result<Callee<'a>, ReadError>
+    ensures { Gives callee_tree_of result (found (option_map callee_tree_of callee.entry) tokens.now) }
 {
     match callee {
         Some(callee) => Ok(callee),
@@ -48,12 +50,13 @@ fn found(callee: Option<Callee>, tokens: &[Token]) -> Result<Callee, ReadError>
 }
 
 /// The function of that title, which the first of the tokens says.
-pub(crate) fn callee_titled(
+pub(crate) fn callee_titled<'a>(
     title: Title,
-    names: &Names,
+    names: &'a Names,
     tokens: &[Token],
-) -> Result<Callee, ReadError>
-    ensures { Gives (λ f. f) result (callee_titled title (names_of names.now) tokens.now) }
+) -> Result<Callee<'a>, ReadError>
+    ensures { Gives callee_tree_of result
+        (callee_titled title (names_of names.entry.now) tokens.now) }
 {
     match title {
         Title::Missing => Err(fault_at(tokens, Wrong::Unexpected)),
@@ -64,8 +67,8 @@ pub(crate) fn callee_titled(
 }
 
 /// The function whose name is at the front.
-fn callee_at(names: &Names, tokens: &[Token]) -> Result<Callee, ReadError>
-    ensures { Gives (λ f. f) result (callee_at (names_of names.now) tokens.now) }
+fn callee_at<'a>(names: &'a Names, tokens: &[Token]) -> Result<Callee<'a>, ReadError>
+    ensures { Gives callee_tree_of result (callee_at (names_of names.entry.now) tokens.now) }
 {
     callee_titled(title_at(tokens), names, tokens)
 }
@@ -91,6 +94,15 @@ pub(crate) struct Arguments {
     pub(crate) second: Expr,
 }
 
+fn no_arguments() -> Arguments
+    ensures { view_arguments result ≡ no_arguments }
+{
+    Arguments {
+        first: Expr::Number(0),
+        second: Expr::Number(0),
+    }
+}
+
 fn no_argument<'a>(
     called: &[Token],
     tokens: &'a [Token],
@@ -98,70 +110,117 @@ fn no_argument<'a>(
     ensures { Gives (λ x. (view_arguments x.0, x.1.now)) result
         (no_argument called.now tokens.entry.now) }
 {
-    if !is_close(tokens) {
-        return Err(fault_at(called, Wrong::ArgumentCount));
+    if is_close(tokens) {
+        Ok((no_arguments(), after_first(tokens)))
+    } else {
+        Err(fault_at(called, Wrong::ArgumentCount))
     }
-    let arguments = Arguments {
-        first: Expr::Number(0),
-        second: Expr::Number(0),
-    };
-    Ok((arguments, after_first(tokens)))
 }
 
-fn one_argument<'a>(
+/// Whether nothing is left of a number above so many bits, if there is a width.
+fn does_fit(number: i64, bits: u8) -> bool
+    ensures { result ≡ does_fit number bits }
+{
+    bits == 0 || right(number, i64::from(bits)) == 0
+}
+
+/// An argument, unless it is a number that does not fit the width of its parameter.
+fn if_fits(value: Expr, bits: u8, tokens: &[Token]) -> Result<Expr, ReadError>
+    ensures { Gives tree_of result (if_fits (tree_of value) bits tokens.now) }
+{
+    match value {
+        Expr::Number(number) => {
+            if does_fit(number, bits) {
+                Ok(Expr::Number(number))
+            } else {
+                Err(fault_at(tokens, Wrong::TooWide))
+            }
+        }
+        _ => Ok(value),
+    }
+}
+
+/// The two numbers, with one more argument, for a parameter of that width.
+fn with_argument(
+    alloc: Global,
+    taken: Taken,
+    bits: u8,
+    before: Arguments,
+    value: Expr,
+) -> Result<Arguments, AllocError>
+    ensures { IfOk result (λ a. view_arguments a
+        ≡ with_argument taken bits (view_arguments before) (tree_of value)) }
+{
+    let Arguments { first, second } = before;
+    let (first, second) = packed_with(alloc, taken, bits, first, second, value)?;
+    Ok(Arguments { first, second })
+}
+
+/// What follows an argument, where others are wanted, or the end.
+fn behind_argument<'a>(
+    others: &[u8],
+    called: &[Token],
+    tokens: &'a [Token],
+) -> Result<&'a [Token], ReadError>
+    ensures { Gives (λ ts. ts.now) result
+        (behind_argument others.now called.now tokens.entry.now) }
+{
+    match others.split_first() {
+        Some(_) => before_next(called, tokens),
+        None => after_last(called, tokens),
+    }
+}
+
+/// The arguments before, and those for parameters of these widths, and the tokens after `)`.
+fn arguments_from<'a>(
     alloc: Global,
     names: &Names,
+    taken: Taken,
+    before: Arguments,
+    widths: &[u8],
     called: &[Token],
     tokens: &'a [Token],
 ) -> Result<(Arguments, &'a [Token]), ReadError>
     ensures { Gives (λ x. (view_arguments x.0, x.1.now)) result
-        (one_argument (names_of names.now) called.now tokens.entry.now) }
+        (arguments_from (names_of names.now) taken (view_arguments before) widths.now called.now tokens.entry.now) }
 {
-    let (first, rest) = argument_at(alloc, names, tokens)?;
-    let after = after_last(called, rest)?;
-    let arguments = Arguments {
-        first,
-        second: Expr::Number(0),
+    let Some((bits, others)) = widths.split_first() else {
+        return Ok((before, tokens));
     };
-    Ok((arguments, after))
+    let (value, rest) = argument_at(alloc, names, tokens)?;
+    let value = if_fits(value, *bits, tokens)?;
+    let rest = behind_argument(others, called, rest)?;
+    let arguments = with_argument(alloc, taken, *bits, before, value)?;
+    let taken = with_one(taken, *bits);
+    arguments_from(alloc, names, taken, arguments, others, called, rest)
 }
 
-fn two_arguments<'a>(
-    alloc: Global,
-    names: &Names,
-    called: &[Token],
-    tokens: &'a [Token],
-) -> Result<(Arguments, &'a [Token]), ReadError>
-    ensures { Gives (λ x. (view_arguments x.0, x.1.now)) result
-        (two_arguments (names_of names.now) called.now tokens.entry.now) }
-{
-    let (first, rest) = argument_at(alloc, names, tokens)?;
-    let next = before_next(called, rest)?;
-    let (second, rest) = argument_at(alloc, names, next)?;
-    let after = after_last(called, rest)?;
-    Ok((Arguments { first, second }, after))
-}
-
-/// So many arguments, behind `(`, and the tokens after `)`. The name of the function is the first of those that are
-/// `called`.
+/// The arguments of a function whose parameters have these widths, behind `(`, and the tokens after `)`. The name of the
+/// function is the first of those that are `called`.
 fn arguments_at<'a>(
     alloc: Global,
     names: &Names,
-    count: u8,
+    widths: &[u8],
     called: &[Token],
     tokens: &'a [Token],
 ) -> Result<(Arguments, &'a [Token]), ReadError>
     ensures { Gives (λ x. (view_arguments x.0, x.1.now)) result
-        (arguments_at (names_of names.now) count called.now tokens.entry.now) }
+        (arguments_at (names_of names.now) widths.now called.now tokens.entry.now) }
 {
-    if count == 0 {
+    if widths.is_empty() {
         no_argument(called, tokens)
     } else if is_close(tokens) {
         Err(fault_at(called, Wrong::ArgumentCount))
-    } else if count == 1 {
-        one_argument(alloc, names, called, tokens)
     } else {
-        two_arguments(alloc, names, called, tokens)
+        arguments_from(
+            alloc,
+            names,
+            nothing_taken(),
+            no_arguments(),
+            widths,
+            called,
+            tokens,
+        )
     }
 }
 
@@ -234,7 +293,7 @@ pub(crate) fn run_at<'a>(
     let callee = callee_at(names, tokens)?;
     let run = if_group_left(run, names, tokens)?;
     let inside = after_open(after_first(tokens))?;
-    let (arguments, rest) = arguments_at(alloc, names, callee.parameters, tokens, inside)?;
+    let (arguments, rest) = arguments_at(alloc, names, callee.widths, tokens, inside)?;
     Ok((made(alloc, run, callee.number, arguments)?, rest))
 }
 

@@ -55,6 +55,16 @@ pub enum Wrong {
     KnownFunction,
     /// No function of this name is there.
     UnknownFunction,
+    /// What is behind the `:` of a parameter is no width.
+    NoWidth,
+    /// A parameter of the function that the root runs has a width.
+    RootWidth,
+    /// No number that a task gets has room for a parameter.
+    NoRoom,
+    /// More parameters than a function may have.
+    TooManyParameters,
+    /// An argument is a number that does not fit the width of its parameter.
+    TooWide,
     /// A function gets more or fewer arguments than it has parameters.
     ArgumentCount,
     /// A task or a group, where a variable is wanted, that was not waited for.

@@ -23,7 +23,7 @@ fn left(number: i64, by: i64) -> i64
 }
 
 /// A number, shifted right by the lowest six bits of another; it keeps its sign.
-fn right(number: i64, by: i64) -> i64
+pub(crate) fn right(number: i64, by: i64) -> i64
     ensures { result ≡ int_shr number (shift_of by) }
 {
     number.wrapping_shr(shift_of(by))

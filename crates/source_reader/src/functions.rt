@@ -1,18 +1,20 @@
 // Functions.
-ghost use Rattle.std.specs.Prelude.{◌≡◌, ◌++◌, ◌∷◌, [], Ok, map};
+ghost use Rattle.std.specs.Prelude.{◌≡◌, ◌++◌, ◌∷◌, [], Ok, IfOk, map};
 ghost use Rattle.source_reader.specs.Faults.{Gives};
 ghost use Rattle.source_reader.specs.Trees.{stmt_tree_of, function_tree_of};
 ghost use Rattle.source_reader.specs.Names.{names_of};
-ghost use Rattle.source_reader.specs.Functions.{larger, given, made_for, variables_of, after_fn, is_this, is_known, function_name, second_name, parameters_at, body_at, view_named, function_at, functions_from};
+ghost use Rattle.source_reader.specs.Functions.{larger, given, made_for, variables_of, after_fn, is_this, is_known, function_name, function_of, is_first, view_named, function_at, functions_from};
 
+use crate::bodies::inside_at;
 use crate::faults::{ReadError, Wrong, fault_at};
-use crate::lines::{after_comma, after_line_ends, free_name, item_ended};
-use crate::marks::{after_close, after_first, after_open, is_close};
-use crate::names::{Meaning, Names, number_after};
-use crate::statements::block_at;
+use crate::layouts::{first_variable, with_unpacking};
+use crate::lines::{after_line_ends, free_name, item_ended};
+use crate::marks::{after_first, after_open};
+use crate::names::{Names, number_after};
+use crate::widths::widths_in;
 use source_language::{Function, Maker, Stmt};
 use source_tokens::{Kind, Token};
-use std::alloc::Global;
+use std::alloc::{AllocError, Global};
 
 /// How long the body of a function may be.
 pub const BODY_FUEL: u16 = 600;
@@ -129,82 +131,19 @@ fn is_this(name: usize, known: Option<usize>) -> bool
     }
 }
 
-/// The names of the parameters.
-#[derive(Clone, Copy)]
-pub(crate) struct Parameters {
-    first: Option<usize>,
-    second: Option<usize>,
+/// A function with parameters of these widths, and with that body.
+fn function_of(alloc: Global, widths: &[u8], body: Stmt) -> Result<Function, AllocError>
+    ensures { IfOk result (λ f. function_tree_of f ≡ function_of widths.now (stmt_tree_of body)) }
+{
+    let body = with_unpacking(alloc, widths, body)?;
+    let variables = larger(2, variables_of(&body));
+    Ok(Function { variables, body })
 }
 
-/// The name of the second parameter, which is not that of the first one.
-fn second_name(first: usize, names: &Names, tokens: &[Token]) -> Result<usize, ReadError>
-    ensures { Gives (λ n. n) result (second_name first (names_of names.now) tokens.now) }
+fn is_first(known: &[Option<usize>]) -> bool
+    ensures { result ≡ is_first known.now }
 {
-    let name = free_name(names, tokens)?;
-    if name == first {
-        Err(fault_at(tokens, Wrong::KnownName))
-    } else {
-        Ok(name)
-    }
-}
-
-/// The parameters, behind `(`, and what follows `)`.
-fn parameters_at<'a>(
-    names: &Names,
-    tokens: &'a [Token],
-) -> Result<(Parameters, &'a [Token]), ReadError>
-    ensures { Gives (λ x. (x.0, x.1.now)) result (parameters_at (names_of names.now) tokens.entry.now) }
-{
-    if is_close(tokens) {
-        let none = Parameters {
-            first: None,
-            second: None,
-        };
-        return Ok((none, after_first(tokens)));
-    }
-    let first = free_name(names, tokens)?;
-    let rest = after_first(tokens);
-    if is_close(rest) {
-        let one = Parameters {
-            first: Some(first),
-            second: None,
-        };
-        return Ok((one, after_first(rest)));
-    }
-    let rest = after_comma(rest)?;
-    let second = second_name(first, names, rest)?;
-    let after = after_close(after_first(rest))?;
-    let two = Parameters {
-        first: Some(first),
-        second: Some(second),
-    };
-    Ok((two, after))
-}
-
-/// The body of a function with these parameters.
-fn body_at<'a>(
-    alloc: Global,
-    names: &Names,
-    parameters: Parameters,
-    tokens: &'a [Token],
-) -> Result<(Stmt, &'a [Token]), ReadError>
-    ensures { Gives (λ x. (stmt_tree_of x.0, x.1.now)) result
-        (body_at (names_of names.now) parameters tokens.entry.now) }
-{
-    match parameters.first {
-        None => block_at(alloc, names, false, BODY_FUEL, tokens),
-        Some(first) => match parameters.second {
-            None => {
-                let one = Names::Name(first, Meaning::Variable(0), names);
-                block_at(alloc, &one, false, BODY_FUEL, tokens)
-            }
-            Some(second) => {
-                let one = Names::Name(first, Meaning::Variable(0), names);
-                let two = Names::Name(second, Meaning::Variable(1), &one);
-                block_at(alloc, &two, false, BODY_FUEL, tokens)
-            }
-        },
-    }
+    known.is_empty()
 }
 
 /// A function, its name, and what follows it.
@@ -227,12 +166,13 @@ fn function_at<'a>(
     let named = after_fn(tokens)?;
     let name = function_name(names, known, named)?;
     let inside = after_open(after_first(named))?;
-    let (parameters, rest) = parameters_at(names, inside)?;
-    let (body, rest) = body_at(alloc, names, parameters, rest)?;
-    let variables = larger(2, variables_of(&body));
+    let widths = widths_in(alloc, inside)?;
+    let variable = first_variable(widths.as_slice());
+    let (body, rest) = inside_at(alloc, is_first(known), names, variable, inside)?;
+    let function = function_of(alloc, widths.as_slice(), body)?;
     Ok(Named {
         name,
-        function: Function { variables, body },
+        function,
         rest,
     })
 }

@@ -1,9 +1,11 @@
 // The functions that a source declares: a body may call them before they are read.
-ghost use Rattle.std.specs.Prelude.{◌≡◌, ◌++◌, IfOk, false};
-ghost use Rattle.source_reader.specs.Headers.{is_fn, is_inline, begins, title_of, title_at, parameters_in, header_of, headers_behind, gathers_of, gathering_headers, headers_of, is_same, callee_in};
+ghost use Rattle.std.specs.Prelude.{◌≡◌, ◌++◌, IfOk, false, map, option_map};
+ghost use Rattle.source_reader.specs.Headers.{is_fn, is_inline, begins, title_of, title_at, header_of, headers_behind, gathers_of, gathering_headers, headers_of, is_same, callee_in};
+ghost use Rattle.source_reader.specs.Trees.{header_tree_of, callee_tree_of};
 
-use crate::marks::{after_first, is_close};
+use crate::marks::after_first;
 use crate::names::number_after;
+use crate::widths::widths_in;
 use source_tokens::{Gathers, Kind, Token};
 use std::alloc::{AllocError, Global};
 
@@ -18,18 +20,18 @@ pub(crate) enum Title {
     Missing,
 }
 
-/// What the others know of a function: its name, and how many parameters it has.
-#[derive(Clone, Copy)]
+/// What the others know of a function: its name, and the widths of its parameters, 0 for none.
+#[derive(Drop)]
 pub(crate) struct Header {
     pub(crate) title: Title,
-    pub(crate) parameters: u8,
+    pub(crate) widths: Vec<u8>,
 }
 
-/// A function that is called: its number, and how many parameters it has.
+/// A function that is called: its number, and the widths of its parameters.
 #[derive(Clone, Copy)]
-pub(crate) struct Callee {
+pub(crate) struct Callee<'a> {
     pub(crate) number: u8,
-    pub(crate) parameters: u8,
+    pub(crate) widths: &'a [u8],
 }
 
 fn is_fn(kind: Kind) -> bool
@@ -77,27 +79,13 @@ pub(crate) fn title_at(tokens: &[Token]) -> Title
     }
 }
 
-/// How many parameters there are behind `(`.
-fn parameters_in(tokens: &[Token]) -> u8
-    ensures { result ≡ parameters_in tokens.now }
-{
-    if is_close(tokens) {
-        0
-    } else if is_close(after_first(tokens)) {
-        1
-    } else {
-        2
-    }
-}
-
 /// The function that is declared here, behind `fn`.
-fn header_of(tokens: &[Token]) -> Header
-    ensures { result ≡ header_of tokens.now }
+fn header_of(alloc: Global, tokens: &[Token]) -> Result<Header, AllocError>
+    ensures { IfOk result (λ h. header_tree_of h ≡ header_of tokens.now) }
 {
-    Header {
-        title: title_at(tokens),
-        parameters: parameters_in(after_first(after_first(tokens))),
-    }
+    let title = title_at(tokens);
+    let widths = widths_in(alloc, after_first(after_first(tokens)))?;
+    Ok(Header { title, widths })
 }
 
 /// What the word of a parallel loop says, if it is one.
@@ -111,8 +99,13 @@ pub(crate) fn gathers_of(kind: Kind) -> Option<Gathers>
 }
 
 /// These functions, and then those of parallel loops.
-fn with_gatherings(headers: Vec<Header>, tokens: &[Token]) -> Result<Vec<Header>, AllocError>
-    ensures { IfOk result (λ v. v.items ≡ headers.items ++ gathering_headers tokens.now) }
+fn with_gatherings(
+    alloc: Global,
+    headers: Vec<Header>,
+    tokens: &[Token],
+) -> Result<Vec<Header>, AllocError>
+    ensures { IfOk result (λ v. map header_tree_of v.items
+        ≡ map header_tree_of headers.items ++ gathering_headers tokens.now) }
 {
     let mut headers = headers;
     let mut left = tokens;
@@ -121,7 +114,7 @@ fn with_gatherings(headers: Vec<Header>, tokens: &[Token]) -> Result<Vec<Header>
         if gathers_of(first.kind).is_some() {
             headers.push(Header {
                 title: Title::Gathering(rest.len()),
-                parameters: 2,
+                widths: Vec::new(alloc),
             })?;
         }
     }
@@ -130,14 +123,14 @@ fn with_gatherings(headers: Vec<Header>, tokens: &[Token]) -> Result<Vec<Header>
 
 /// The functions that are declared, in order, and behind them those of parallel loops.
 pub(crate) fn headers_in(alloc: Global, tokens: &[Token]) -> Result<Vec<Header>, AllocError>
-    ensures { IfOk result (λ v. v.items ≡ headers_of tokens.now) }
+    ensures { IfOk result (λ v. map header_tree_of v.items ≡ headers_of tokens.now) }
 {
-    with_gatherings(declared_in(alloc, tokens)?, tokens)
+    with_gatherings(alloc, declared_in(alloc, tokens)?, tokens)
 }
 
 /// The functions that are declared, in order.
 fn declared_in(alloc: Global, tokens: &[Token]) -> Result<Vec<Header>, AllocError>
-    ensures { IfOk result (λ v. v.items ≡ headers_behind false tokens.now) }
+    ensures { IfOk result (λ v. map header_tree_of v.items ≡ headers_behind false tokens.now) }
 {
     let mut headers = Vec::new(alloc);
     let mut left = tokens;
@@ -145,7 +138,7 @@ fn declared_in(alloc: Global, tokens: &[Token]) -> Result<Vec<Header>, AllocErro
     while let [first, rest @ ..] = left {
         left = rest;
         if begins(behind_inline, first.kind) {
-            headers.push(header_of(rest))?;
+            headers.push(header_of(alloc, rest)?)?;
         }
         behind_inline = is_inline(first.kind);
     }
@@ -164,14 +157,15 @@ fn is_same(a: Title, b: Title) -> bool
 }
 
 /// The first function of that name, if the first of all has that number.
-pub(crate) fn callee_in(title: Title, headers: &[Header], number: u8) -> Option<Callee>
-    ensures { result ≡ callee_in title headers.now number }
+pub(crate) fn callee_in<'a>(title: Title, headers: &'a [Header], number: u8) -> Option<Callee<'a>>
+    ensures { option_map callee_tree_of result
+        ≡ callee_in title (map header_tree_of headers.entry.now) number }
 {
     match headers.split_first() {
         Some((first, others)) => {
             if is_same(title, first.title) {
-                let parameters = first.parameters;
-                Some(Callee { number, parameters })
+                let widths = first.widths.as_slice();
+                Some(Callee { number, widths })
             } else {
                 callee_in(title, others, number_after(number))
             }

@@ -2,6 +2,7 @@
 #![tactic(auto)]
 
 mod ahead;
+mod bodies;
 mod calls;
 mod cells;
 mod constants;
@@ -20,6 +21,7 @@ mod inlines;
 mod items;
 mod joining;
 mod keys;
+mod layouts;
 mod lines;
 mod loops;
 mod marks;
@@ -37,6 +39,7 @@ mod trees;
 mod truths;
 mod values;
 mod waits;
+mod widths;
 
 pub use faults::Wrong;
 pub use places::Place;

@@ -2,7 +2,7 @@
 ghost use Rattle.std.specs.Prelude.{◌≡◌, IfOk, map, drop};
 ghost use Rattle.source_tokens.specs.Tokens.{tokens_of};
 ghost use Rattle.source_reader.specs.Faults.{Gives};
-ghost use Rattle.source_reader.specs.Trees.{function_tree_of};
+ghost use Rattle.source_reader.specs.Trees.{function_tree_of, header_tree_of};
 ghost use Rattle.source_reader.specs.Places.{beginning, place_left, place_of};
 ghost use Rattle.source_reader.specs.Items.{items_from};
 ghost use Rattle.source_reader.specs.Names.{Functions};
@@ -129,7 +129,7 @@ fn items_with(
     tokens: &[Token],
 ) -> Result<Vec<Function>, ReadError>
     ensures { Gives (λ v. map function_tree_of v.items) result
-        (items_from ITEMS (Functions headers.now) tokens.now) }
+        (items_from ITEMS (Functions (map header_tree_of headers.now)) tokens.now) }
 {
     let names = Names::Functions(headers);
     items_from(alloc, ITEMS, &names, tokens)
