@@ -78,12 +78,6 @@ fn words_of(wrong: Wrong) -> &'static str {
         Wrong::GatheringReturn => "the body of a parallel loop ends by `give`, not by `return`",
         Wrong::KnownFunction => "a function has this name already, or `main` is not the first one",
         Wrong::UnknownFunction => "no function of this name is there",
-        Wrong::NoWidth => "a width is u1 to u62, as in `lo: u20`",
-        Wrong::RootWidth => "the first function gets its two numbers whole: let it call one with widths",
-        Wrong::NoRoom => "a task gets two numbers, and this needs more: give small parameters a width",
-        Wrong::TooManyParameters => "a function has at most 16 parameters",
-        Wrong::TooWide => "this does not fit the width of its parameter",
-        Wrong::ArgumentCount => "a function gets as many arguments as it has parameters",
         Wrong::NotWaited =>
             "this is a task or a group that was not waited for: write `wait` before its value is read",
         Wrong::WaitSkipped =>
@@ -97,6 +91,21 @@ fn words_of(wrong: Wrong) -> &'static str {
             "no group is left: wait for a task before, since there are 4, and a call needs one",
         Wrong::TooManyFunctions => "a job has at most 16 functions, and each parallel loop is one",
         Wrong::NoFunction => "there is no fn: write `fn main(x, y) { .. }`",
+        _ => words_of_parameters(wrong),
+    }
+}
+
+/// What is wrong with parameters or arguments.
+fn words_of_parameters(wrong: Wrong) -> &'static str {
+    match wrong {
+        Wrong::NoWidth => "a width is u1 to u62, as in `lo: u20`",
+        Wrong::RootWidth =>
+            "the first function gets its two numbers whole: let it call one with widths",
+        Wrong::NoRoom =>
+            "a task gets two numbers, and this needs more: give small parameters a width",
+        Wrong::TooManyParameters => "a function has at most 16 parameters",
+        Wrong::TooWide => "this does not fit the width of its parameter",
+        _ => "a function gets as many arguments as it has parameters",
     }
 }
 

@@ -2,6 +2,7 @@
 #![tactic(auto)]
 
 mod ahead;
+mod arguments;
 mod bodies;
 mod calls;
 mod cells;
