@@ -1,7 +1,7 @@
 // A choice of registers, one live range after another: what the check then confirms.
 ghost use Rattle.std.specs.Prelude.{◌≡◌, ◌+◌, ◌≤◌, [], length, vec_capacity};
 
-use crate::uses::{leads_to, writes};
+use crate::uses::{leads_to, reads, writes};
 use job_compiler::VirtualInstr;
 use job_language::REGISTERS;
 
@@ -23,10 +23,26 @@ pub(crate) fn choose(
     requires room { length instrs.now + 1 ≤ vec_capacity memory }
 {
     let mut colours = no_colours(memory, instrs.len() + 1);
+    let last = last_register(instrs);
     for place in 0..instrs.len() + 1 {
-        choose_at(&mut colours, instrs, live, place);
+        choose_at(&mut colours, instrs, live, place, last);
     }
     colours
+}
+
+// The highest virtual register that some instruction reads or writes, or that of the second argument.
+fn last_register(instrs: &[VirtualInstr]) -> u8 {
+    let mut last = 1;
+    for instr in instrs.iter() {
+        let read = reads(instr);
+        let written = writes(instr);
+        for register in [read.0, read.1, written.0, written.1] {
+            if let Some(u) = register {
+                last = last.max(u);
+            }
+        }
+    }
+    last
 }
 
 fn no_colours(memory: Vec<[u8; 256]>, count: usize) -> Vec<[u8; 256]>
@@ -46,11 +62,15 @@ fn choose_at(
     instrs: &[VirtualInstr],
     live: &[[bool; 256]],
     place: usize,
+    last: u8,
 ) {
     let used = used_at(instrs, live, place);
-    for u in 0..=255u8 {
+    for u in 0..=last {
         if used[usize::from(u)] && colour_at(colours, place, u) == NONE {
-            choose_for_range(colours, instrs, live, place, u);
+            set_colour(colours, place, u, THIS);
+            grow(colours, instrs, live, u);
+            let colour = free(colours, u, last);
+            give_colour(colours, u, colour);
         }
     }
 }
@@ -77,21 +97,17 @@ fn use_also(used: &mut [bool; 256], written: Option<u8>) {
     }
 }
 
-fn choose_for_range(
-    colours: &mut [[u8; 256]],
-    instrs: &[VirtualInstr],
-    live: &[[bool; 256]],
-    place: usize,
-    u: u8,
-) {
-    set_colour(colours, place, u, THIS);
-    // each round but the last one adds a place to the range
+// Takes all places into the range that belong to it.
+fn grow(colours: &mut [[u8; 256]], instrs: &[VirtualInstr], live: &[[bool; 256]], u: u8) {
+    // each round but the last one adds a place
     for _ in 0..256 {
         if !spread(colours, instrs, live, u) {
             break;
         }
     }
-    let colour = free(colours, u);
+}
+
+fn give_colour(colours: &mut [[u8; 256]], u: u8, colour: u8) {
     for row in colours.iter_mut() {
         if row[usize::from(u)] == THIS {
             row[usize::from(u)] = colour;
@@ -155,12 +171,12 @@ fn set_colour(colours: &mut [[u8; 256]], place: usize, u: u8, colour: u8) {
 }
 
 // The lowest register that is free at all places of the range; an argument's own at the beginning.
-fn free(colours: &[[u8; 256]], u: u8) -> u8 {
+fn free(colours: &[[u8; 256]], u: u8, last: u8) -> u8 {
     let begins = colour_at(colours, 0, u) == THIS;
     if begins && u < 2 {
         return u;
     }
-    let taken = taken(colours, u);
+    let taken = taken(colours, u, last);
     for (number, is_taken) in taken.iter().enumerate() {
         if !*is_taken && (number >= 2 || !begins) {
             return number as u8;
@@ -170,17 +186,17 @@ fn free(colours: &[[u8; 256]], u: u8) -> u8 {
 }
 
 // The registers that others have at places of the range.
-fn taken(colours: &[[u8; 256]], u: u8) -> [bool; REGISTERS] {
+fn taken(colours: &[[u8; 256]], u: u8, last: u8) -> [bool; REGISTERS] {
     let mut taken = [false; REGISTERS];
     for row in colours.iter() {
         if row[usize::from(u)] == THIS {
-            take_all(&mut taken, row);
+            take_all(&mut taken, &row[..=usize::from(last)]);
         }
     }
     taken
 }
 
-fn take_all(taken: &mut [bool; REGISTERS], row: &[u8; 256]) {
+fn take_all(taken: &mut [bool; REGISTERS], row: &[u8]) {
     for colour in row.iter() {
         let number = usize::from(*colour);
         if number < REGISTERS {
