@@ -40,7 +40,7 @@ from refused_places import REFUSED  # noqa: E402
 from sharing_sources import SHARING  # noqa: E402
 from unproved import built  # noqa: E402
 from waiting_sources import WAITING  # noqa: E402
-from width_sources import PACKED, WIDTHS  # noqa: E402
+from width_sources import PACKED, WIDTHS, drawn_source  # noqa: E402
 
 LIMITS = {"this function needs more than 8 registers": "registers", "this function is too long for a procedure": "instructions",
           "needs more than 8 registers": "registers", "a procedure has at most": "instructions"}
@@ -232,6 +232,8 @@ def main(seed: int = 1, programs: int = 400) -> list[str]:
         said = difference(program, source, arguments, draws, seen)
         found += [said] if said else []
     found += [said for source, arguments in (*BITS, *COUNTING, *CALLING, *WAITING, *GROUPS, *INLINES, *PARALLEL, *ASKING, *WIDTHS) if (said := difference(program, source, arguments, draws, Counter()))]
+    shared = [drawn_source(draws) for _ in range(max(1, programs // 8))]
+    found += [said for source, arguments in shared if (said := difference(program, source, arguments, draws, Counter()))]
     found += [said for source, arguments in PACKED if (said := packed_difference(program, source, arguments, draws))]
     found += [said for source, arguments, cells in SHARING if (said := difference(program, source, arguments, draws, Counter(), cells))]
     found += [said for source, arguments in FITTING if (said := fitting_difference(program, source, arguments, draws))]
@@ -248,7 +250,7 @@ def main(seed: int = 1, programs: int = 400) -> list[str]:
         print(f"too many programs are refused for registers: {seen['registers']}")
     shown = ", ".join(f"{count} {kind}" for kind, count in sorted(seen.items()))
     print(f"{programs} sources by two compilers ({shown}), {len(BITS)} with bits, {len(COUNTING)} that count, {len(CALLING)} that call, "
-          f"{len(WAITING)} that wait, {len(GROUPS)} with groups, {len(INLINES)} with inline functions, {len(PARALLEL)} with parallel loops, {len(ASKING)} with calls and the like inside values, {len(WIDTHS) + len(PACKED)} with widths, {len(SHARING)} that share, {len(FITTING)} that just fit, {len(TAKEN)} of the examples, {len(REFUSED)} refused: {len(found)} differences")
+          f"{len(WAITING)} that wait, {len(GROUPS)} with groups, {len(INLINES)} with inline functions, {len(PARALLEL)} with parallel loops, {len(ASKING)} with calls and the like inside values, {len(WIDTHS) + len(PACKED) + len(shared)} with widths, {len(SHARING)} that share, {len(FITTING)} that just fit, {len(TAKEN)} of the examples, {len(REFUSED)} refused: {len(found)} differences")
     return found or rare
 
 

@@ -1,4 +1,5 @@
 """Sources whose functions have parameters with a width, each with the arguments of the root."""
+import random
 
 WIDTHS = (
     ("fn main(a, b) { return call f(a, b) }\nfn f(x: u8, y: u8) { return x * 1000 + y }\n", (7, 255)),
@@ -42,3 +43,30 @@ PACKED = (
     ("fn main(a, b) { return call f(a, b) }\nfn f(x: u10, y) { return x - y }\n", (-77, 2**63 - 1)),
 )
 """Arguments that do not fit their widths change their neighbours, as in the compiler in Python; no interpreter knows of that."""
+
+MOST = 63
+"""How many bits parameters with a width share in a number."""
+
+
+def drawn_widths(draws: random.Random) -> list[int]:
+    """Widths of parameters for which a task's two numbers have room, in a drawn order; 0 is none."""
+    rooms = [[0] if draws.random() < 0.2 else [], []]
+    for room in rooms:
+        left = 0 if room else MOST
+        while left and (not room or draws.random() < 0.7):
+            room.append(draws.randint(1, min(left, 62, draws.choice((3, 20, 62)))))
+            left -= room[-1]
+    widths = rooms[0] + rooms[1] if draws.random() < 0.5 else rooms[1] + rooms[0]
+    return widths[:draws.choice((2, 3, 4, 5, 6, 16))]
+
+
+def drawn_source(draws: random.Random) -> tuple[str, tuple[int, int]]:
+    """A source that calls a function with drawn widths, and its arguments: values at the ends of what fits, and between them."""
+    widths = drawn_widths(draws)
+    numbers = [draws.choice((0, 1, 2**(it or 63) - 1, draws.randrange(2**(it or 63)))) for it in widths]
+    given = draws.sample(range(len(widths)), min(2, len(widths)))
+    arguments = ["ab"[given.index(at)] if at in given else str(number) for at, number in enumerate(numbers)]
+    names = ", ".join(f"p{at}: u{it}" if it else f"p{at}" for at, it in enumerate(widths))
+    value = " ^ ".join(f"p{at} * {2 * at + 3}" for at in range(len(widths)))
+    source = f"fn main(a, b) {{ return call f({', '.join(arguments)}) }}\nfn f({names}) {{ return {value} }}\n"
+    return source, tuple(([numbers[at] for at in given] + [0, 0])[:2])
