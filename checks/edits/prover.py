@@ -14,7 +14,7 @@ from stubs import stub_out
 
 KIT = pathlib.Path(shutil.which("rt") or "rt").resolve().parents[1]
 # what one check may take
-SECONDS = 1200
+SECONDS = 2400
 # the first line of a function; a proof file that names what a wrong body took away: that says nothing of the contract
 HEAD = re.compile(r"\s*(?:pub(?:\([a-z]+\))? )?fn (\w+)")
 NAMES = re.compile(r"has no field|is not in scope|has no `|was not admitted")
