@@ -44,7 +44,7 @@ PAUSE = """
     }
 
 """
-DESKS, BOARD, FOLDERS = "crates/host_terms/src/desks.rt", "crates/host_terms/src/board.rt", "crates/host_program/src/folders.rt"
+DESKS, BOARD, FOLDERS = "crates/host_terms/src/desks.rt", "crates/host_terms/src/board.rt", "crates/host_folder/src/folders.rt"
 KEEPS_FIRST = """        match self.kept(rt, alloc) {
             Some(kept) => self.outbox.send(rt, kept),
             None => {

@@ -1,2 +1,1 @@
 pub mod Fates
-pub mod Results

@@ -1,6 +1,6 @@
 // What the threads of a host share, and the words that it was called with.
 
-use crate::folders::Folder;
+use host_folder::Folder;
 use host_status::{Event, Fault};
 use host_terms::{Desk, Host, Outlet, Place};
 use program_words::HostWords;
@@ -46,6 +46,8 @@ pub(crate) struct HostContext<'h, J: Naming> {
     pub(crate) progress: &'h Progress,
     pub(crate) folder: &'h Folder,
     pub(crate) words: HostWords<'h>,
+    /// When the host began, in seconds since 1970.
+    pub(crate) began: u64,
     /// How many connections are served at a time.
     pub(crate) connections: u8,
 }

@@ -68,14 +68,6 @@ pub(crate) fn event_dump_fault(fault: DumpFault) -> Fault {
     }
 }
 
-/// Why the host can't begin that can't write a history at its start.
-pub(crate) fn dump_fault(fault: DumpFault) -> ServerFault {
-    match fault {
-        DumpFault::Memory => ServerFault::Memory,
-        DumpFault::Device | DumpFault::NoEntry => ServerFault::Device,
-    }
-}
-
 /// Why the host can't begin a journal.
 pub(crate) fn part_fault(fault: PartFault) -> ServerFault {
     match fault {

@@ -3,19 +3,18 @@ ghost use Rattle.std.specs.Thread.{IsSend};
 ghost use Rattle.std.specs.Prelude.{◌≡◌, IfOk, length};
 
 use crate::accepting::accept_all;
-use crate::clocks::millis;
+use crate::clocks::{millis, seconds};
 use crate::configs::read_config;
 use crate::context::{HostContext, Progress};
 use crate::ends::end_of;
 use crate::filing::Filing;
-use crate::folders::Folder;
-use crate::forgetting::remove_old_notes;
 use crate::journaling::keep_journals;
 use crate::keeping::Keeper;
 use crate::recovering::recover_all;
 use crate::shower::Shower;
 use crate::system::System;
 use crate::writing::{Writer, write_histories};
+use host_folder::{Folder, remove_old_notes};
 use host_status::Event;
 use host_terms::{Desk, Host, Outlet, Place, Reception, attend_desk};
 use mio::Waker;
@@ -84,11 +83,12 @@ fn host_named<'h, J: Naming + Send + Sync, R: System>(
         progress: &progress,
         folder,
         words,
+        began: seconds(rt),
         connections,
     };
     context.say(rt, alloc, Event::Start);
     recover_all(rt, alloc, context, &mut shelves)?;
-    remove_old_notes(rt, context, &shelves)?;
+    remove_old_notes(rt, folder, &shelves)?;
     let access = Access {
         mode: words.mode,
         group: words.group,
@@ -198,7 +198,7 @@ fn keep_hosting<J: Naming + Send + Sync, R: System>(
     listening: String,
 ) -> Result<ServerEnd, ServerFault> {
     let mut keeper = keeper;
-    let mut shower = Shower::new(rt);
+    let mut shower = Shower::new();
     shower.show_now(rt, alloc, context, &keeper);
     context.outlet.print(rt, Some(listening));
     for _turn in rt.forever() {

@@ -3,7 +3,7 @@
 use crate::clocks::millis;
 use crate::context::HostContext;
 use crate::ends::part_fault;
-use crate::files::sync_folder;
+use host_folder::sync_folder;
 use host_terms::Journal;
 use job_language::TenantConfig;
 use program_words::Durable;

@@ -1,6 +1,6 @@
 // When the status of a host is written.
 
-use crate::clocks::{millis, seconds};
+use crate::clocks::millis;
 use crate::context::HostContext;
 use crate::keeping::Keeper;
 use crate::showing::show;
@@ -16,19 +16,14 @@ const SECOND: u64 = 1000;
 /// When the status was written.
 #[derive(Clone, Copy)]
 pub(crate) struct Shower {
-    /// When the host began, in seconds since 1970.
-    began: u64,
     /// When the status was last written, in milliseconds of the monotonic clock.
     shown: u64,
 }
 
 impl Shower {
-    /// The status of a host that begins now was not written yet.
-    pub(crate) fn new<R: Clock>(rt: &R) -> Shower {
-        Shower {
-            began: seconds(rt),
-            shown: 0,
-        }
+    /// The status was not written yet.
+    pub(crate) fn new() -> Shower {
+        Shower { shown: 0 }
     }
 
     /// Writes the status, once a second.
@@ -54,6 +49,6 @@ impl Shower {
     ) {
         self.shown = millis(rt);
         // The next one is written within a second.
-        let _ = show(rt, alloc, context, self.began, keeper.filing().closed());
+        let _ = show(rt, alloc, context, keeper.filing().closed());
     }
 }

@@ -28,7 +28,6 @@ pub(crate) fn show<J: Naming, R: Files<File = File> + Wait + Clock + AllocGlobal
     rt: &R,
     alloc: Global,
     context: HostContext<'_, J>,
-    began: u64,
     closed: &[ClosedTerm],
 ) -> io::Result<()> {
     let workers = workers(rt, alloc, context)?;
@@ -38,7 +37,7 @@ pub(crate) fn show<J: Naming, R: Files<File = File> + Wait + Clock + AllocGlobal
     let status = HostStatus {
         version: VERSION,
         time: seconds(rt),
-        began,
+        began: context.began,
         connections: words.connections,
         connected: context.connected(rt),
         served: context.progress.served.load(Ordering::SeqCst),

@@ -1,8 +1,6 @@
 // The files of a term that is closed, and what is told of it.
 
 use crate::context::HostContext;
-use crate::files::put_text;
-use crate::results::outcomes_text;
 use dump_files::{Broken, Whole};
 use dump_lines::DumpFault;
 use host_status::ClosedTerm;
@@ -63,17 +61,10 @@ where
     R: Files<File = File>,
 {
     let named = end.tenant.tenant().name;
-    let path = context
+    let outcomes = end.outcomes.as_slice();
+    context
         .folder
-        .result(alloc, named.as_str(), end.span.number)?;
-    let text = outcomes_text(alloc, end.outcomes.as_slice())?;
-    put_text(
-        rt,
-        alloc,
-        context.folder.results.as_str(),
-        path.as_str(),
-        text.as_slice(),
-    )
+        .put_outcomes(rt, alloc, named.as_str(), end.span.number, outcomes)
 }
 
 /// Removes a term's journal, if it has one, once its history and outcomes are in their files.

@@ -2,9 +2,9 @@
 
 use super::{Keeper, Tended};
 use crate::context::HostContext;
-use crate::folders::Begin;
-use crate::forgetting::{begin_notes, read_notes};
+use crate::forgetting::begin_notes;
 use crate::system::System;
+use host_folder::{Begin, read_notes};
 use host_terms::Tenancy;
 use job_language::{Config, TenantConfig};
 use server_io::ServerFault;
@@ -81,7 +81,7 @@ impl<J: Naming> Keeper<J> {
         let keep = context.words.keep as usize;
         let tenancy = Tenancy::new(alloc, named, number, base.min(MOST_JOBS), keep);
         let tenancy = shared(alloc, tenancy)?;
-        let forgotten = read_notes(rt, alloc, context, name)?;
+        let forgotten = read_notes(rt, alloc, context.folder, name)?;
         for term in shelves.numbers(name) {
             if !forgotten.has_retired(*term) {
                 let mut outcomes = context.folder.outcomes(rt, alloc, name, *term)?;

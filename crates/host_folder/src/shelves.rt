@@ -14,7 +14,7 @@ struct Named {
 
 /// The dumps of each tenant, as the host found them at its start and wrote them since.
 #[derive(Drop)]
-pub(crate) struct Shelves {
+pub struct Shelves {
     tenants: Vec<Named>,
 }
 
@@ -57,7 +57,7 @@ impl Shelves {
     }
 
     /// The numbers of the dumps of the tenant of that name.
-    pub(crate) fn numbers(&self, name: &str) -> &[u64] {
+    pub fn numbers(&self, name: &str) -> &[u64] {
         match self.place(name) {
             Some(place) => self.tenants[place].shelf.numbers(),
             None => &[],
@@ -65,7 +65,7 @@ impl Shelves {
     }
 
     /// Whether the tenant of that name has a dump of that term.
-    pub(crate) fn has(&self, name: &str, term: u64) -> bool {
+    pub fn has(&self, name: &str, term: u64) -> bool {
         self.numbers(name).iter().any(|number| *number == term)
     }
 

@@ -1,6 +1,6 @@
 // The outcomes of a term's jobs, as its file has them: a line for each, with the bytes of the reply to a poll.
 ghost use Rattle.std.specs.Prelude.{◌≡◌, true, IfSome};
-ghost use Rattle.host_program.specs.Results.{outcome_line};
+ghost use Rattle.host_folder.specs.Results.{outcome_line};
 
 use job_language::{JobFault, Reply, Status};
 use reply_writer::reply_line;

@@ -32,7 +32,7 @@ pub(crate) fn put_text<R: Files<File = File>>(
 }
 
 /// Brings the names in a folder to the disk, if its file system can do that for a folder.
-pub(crate) fn sync_folder<R: Files<File = File>>(rt: &R, folder: &str) -> io::Result<()> {
+pub fn sync_folder<R: Files<File = File>>(rt: &R, folder: &str) -> io::Result<()> {
     match File::open(rt, folder)?.sync_all() {
         Err(fault) if fault.kind() != ErrorKind::InvalidInput => Err(fault),
         _ => Ok(()),

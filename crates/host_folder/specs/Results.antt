@@ -4,7 +4,7 @@ use Rattle.std.specs.List.{list_any}
 use Rattle.job_language.specs.declared.answers.Reply.TheVariants.{Job}
 use Rattle.reply_writer.specs.ReplyText.{reply_text}
 use Rattle.term_life.specs.declared.outcomes.Outcome.{Outcome}
-use Rattle.host_program.specs.declared.forgetting.Forgotten.{Forgotten}
+use Rattle.host_folder.specs.declared.forgotten.Forgotten.{Forgotten}
 
 -- the line of an outcome, without its end: what a poll of the job is answered
 abbrev pub outcome_line : Outcome → List ℕ
