@@ -1,8 +1,9 @@
 // What the threads of a host share, and the words that it was called with.
 
 use host_folder::Folder;
+use host_records::Outlet;
 use host_status::{Event, Fault};
-use host_terms::{Desk, Host, Outlet, Place};
+use host_terms::{Desk, Host, Place};
 use program_words::HostWords;
 use std::alloc::Global;
 use std::sync::Wait;

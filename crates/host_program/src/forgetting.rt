@@ -2,7 +2,7 @@
 
 use crate::context::HostContext;
 use host_folder::sync_folder;
-use host_terms::Notes;
+use host_records::Notes;
 use program_words::Durable;
 use server_io::ServerFault;
 use std::alloc::Global;

@@ -4,7 +4,7 @@ use crate::clocks::millis;
 use crate::context::HostContext;
 use crate::ends::part_fault;
 use host_folder::sync_folder;
-use host_terms::Journal;
+use host_records::Journal;
 use job_language::TenantConfig;
 use program_words::Durable;
 use server_io::ServerFault;

@@ -21,7 +21,7 @@ use crate::ends::{fault_text, words_fault};
 use crate::hosting::host_tenants;
 use crate::system::System;
 use host_folder::Folder;
-use host_terms::{Outlet, write_printed, write_reported};
+use host_records::{Outlet, write_printed, write_reported};
 use program_version::{asks_version, print_version};
 use program_words::{HostWords, read_host_words};
 use server_io::{ServerEnd, ServerFault, exit_status};

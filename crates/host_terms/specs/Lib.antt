@@ -3,5 +3,4 @@ pub mod Bookings
 pub mod Endings
 pub mod Found
 pub mod Hellos
-pub mod Journals
 pub mod Turns

@@ -2,10 +2,10 @@
 
 mod attending;
 
-use crate::journals::Kept;
 use crate::outbox::{Outbox, lost};
 use crate::terms::Booking;
 pub use attending::attend_desk;
+use host_records::Kept;
 use server_io::Watch;
 use std::alloc::Global;
 use std::io;

@@ -11,9 +11,9 @@ mod notes;
 mod waits;
 
 use crate::admissions::Admissions;
-use crate::forgetting::Notes;
 use crate::roster::Roster;
 use crate::terms::{Booking, HostTerm};
+use host_records::Notes;
 use job_language::{Error, Reply, Request, TenantName};
 use server_io::ServerFault;
 use std::alloc::{AllocError, Global};

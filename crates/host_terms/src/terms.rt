@@ -11,9 +11,9 @@ mod looks;
 
 use crate::board::{Board, Calls, TermSignal};
 use crate::crowd::Crowd;
-use crate::journals::{Journal, Kept, bring_to_journal};
 use crate::places::{Place, TermGate};
 pub(crate) use bookings::Booking;
+use host_records::{Journal, Kept, bring_to_journal};
 use job_language::{Config, Level, TenantConfig, TenantName};
 use server_house::{ClientSeats, House, Lodging, OwnClient, OwnPost};
 use server_io::ServerFault;

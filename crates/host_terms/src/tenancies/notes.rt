@@ -2,7 +2,7 @@
 ghost use Rattle.host_terms.specs.Answers.{IsKeptAnswer};
 
 use super::Tenancy;
-use crate::forgetting::Notes;
+use host_records::Notes;
 use job_language::{Reply, Request};
 use std::alloc::Global;
 use std::io;

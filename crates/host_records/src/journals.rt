@@ -2,7 +2,7 @@
 ghost use Rattle.std.specs.Prelude.{OnOk};
 ghost use Rattle.std.specs.Io.KnownBytes.{Appends};
 ghost use Rattle.dump_lines.specs.Dumps.{entries_text};
-ghost use Rattle.host_terms.specs.Journals.{AreNext, AreWritten};
+ghost use Rattle.host_records.specs.Journals.{AreNext, AreWritten};
 
 use job_language::{Entry, TenantConfig};
 use part_writer::{LivePart, PartFault};
@@ -68,24 +68,24 @@ pub struct Journal {
 
 /// All that a term's tenant was asked up to a moment is where it outlives what it is to outlive. `bring_to_journal`
 /// makes one, or `of_nothing` if no term was asked, and the replies that go out with it end it.
-pub(crate) struct Kept {
+pub struct Kept {
     _made_here: (),
 }
 
 impl Kept {
     /// No term was asked for what the replies tell.
-    pub(crate) fn of_nothing() -> Kept {
+    pub fn of_nothing() -> Kept {
         Kept { _made_here: () }
     }
 
     /// The replies go out.
-    pub(crate) fn end(self) {
+    pub fn end(self) {
         let Kept { _made_here: () } = self;
     }
 }
 
 /// Brings to its journal, if it has one, what a tenant was asked. None if that fails.
-pub(crate) fn bring_to_journal<J: Naming, R: Wait>(
+pub fn bring_to_journal<J: Naming, R: Wait>(
     rt: &R,
     alloc: Global,
     journal: Option<&Journal>,
@@ -133,7 +133,7 @@ impl Journal {
     }
 
     /// Whether the file failed.
-    pub(crate) fn is_broken(&self) -> bool {
+    pub fn is_broken(&self) -> bool {
         self.is_broken.load(Ordering::SeqCst)
     }
 
@@ -226,7 +226,7 @@ impl Journal {
     /// Writes what the history has and the file has not, and brings the file to the disk if that is wanted or replies
     /// wait for it. It says whether all of the history is there, which it is not if the file failed. If an allocation
     /// fails, it can be done again.
-    pub(crate) fn catch_up<J: Naming, R: Wait>(
+    pub fn catch_up<J: Naming, R: Wait>(
         &self,
         rt: &R,
         alloc: Global,

@@ -4,8 +4,8 @@ use Rattle.std.proofs.Common.{subst}
 use Rattle.job_language.specs.declared.steps.Entry.{Entry}
 use Rattle.tenant_book.specs.Fronts.{FrontData}
 use Rattle.tenant_lock.specs.Under.{AreCopied, WasThere}
-use Rattle.host_terms.specs.declared.journals.TheConstants.{SLICE}
-use Rattle.host_terms.specs.Journals.{AreSlices}
+use Rattle.host_records.specs.declared.journals.TheConstants.{SLICE}
+use Rattle.host_records.specs.Journals.{AreSlices}
 use Rattle.term_life.specs.Spans.{capped}
 
 pub one_more : (n tenant count from all : ℕ) (before es : List Entry) (seen now : FrontData)

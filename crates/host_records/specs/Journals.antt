@@ -4,8 +4,8 @@ use Rattle.job_language.specs.declared.steps.Entry.{Entry}
 use Rattle.tenant_book.specs.Fronts.{FrontData}
 use Rattle.tenant_lock.specs.Under.{AreCopied, WasThere}
 use Rattle.term_life.specs.Spans.{capped}
-use Rattle.host_terms.specs.declared.journals.TheConstants.{SLICE}
-use Rattle.host_terms.specs.declared.journals.Written.{Written}
+use Rattle.host_records.specs.declared.journals.TheConstants.{SLICE}
+use Rattle.host_records.specs.declared.journals.Written.{Written}
 
 -- To entries, those were added that follow in the tenant's history at some moment from that place on, as many as a slice has.
 pub record IsSlice (tenant from : ℕ) (old new : List Entry) : Type 0 where

@@ -1,6 +1,6 @@
 use Rattle.std.proofs.Common.{rules, refl, suc}
-use Rattle.host_terms.proofs.Slices.{one_more}
-use Rattle.host_terms.proofs.journals.Written.copy_more.Goals as goal
+use Rattle.host_records.proofs.Slices.{one_more}
+use Rattle.host_records.proofs.journals.Written.copy_more.Goals as goal
 
 pub loop-slice-init : goal.loop-slice-init
 loop-slice-init g c = ((0, c.clear.ensures.items), refl, refl)

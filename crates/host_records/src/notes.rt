@@ -29,20 +29,20 @@ impl Notes {
 
     /// Notes that a job, by its number outside, is released, whose term is closed. If that fails, it may be noted or
     /// not.
-    pub(crate) fn release(&mut self, alloc: Global, job: u64) -> io::Result<()> {
+    pub fn release(&mut self, alloc: Global, job: u64) -> io::Result<()> {
         let line = format!(in alloc; "{{\"released\":{job}}}\n")?;
         self.add(line.as_str())
     }
 
     /// Notes that all jobs are retired whose terms are before the one of that number. If that fails, it may be noted or
     /// not.
-    pub(crate) fn retire(&mut self, alloc: Global, before: u64) -> io::Result<()> {
+    pub fn retire(&mut self, alloc: Global, before: u64) -> io::Result<()> {
         let line = format!(in alloc; "{{\"retired\":{before}}}\n")?;
         self.add(line.as_str())
     }
 
     /// Whether the file has failed since this was asked last.
-    pub(crate) fn take_failure(&mut self) -> bool {
+    pub fn take_failure(&mut self) -> bool {
         let has_failed = self.has_failed;
         self.has_failed = false;
         has_failed
