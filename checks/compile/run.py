@@ -31,7 +31,7 @@ from arena.language import SourceFault, compile_source  # noqa: E402
 from arena.language.examples import examples_of, unit_of  # noqa: E402
 from arena.replies import Complete, Fault, FaultCode  # noqa: E402
 from arena.trace.rehearsal import rehearse  # noqa: E402
-from fitting_sources import FITTING  # noqa: E402
+from fitting_sources import CROWDED, FITTING  # noqa: E402
 from group_sources import GROUPS  # noqa: E402
 from inline_sources import INLINES  # noqa: E402
 from parallel_sources import PARALLEL  # noqa: E402
@@ -42,7 +42,8 @@ from unproved import built  # noqa: E402
 from waiting_sources import WAITING  # noqa: E402
 from width_sources import PACKED, WIDTHS, drawn_source  # noqa: E402
 
-LIMITS = {"this function needs more than 8 registers": "registers", "this function is too long for a procedure": "instructions",
+CROWD = "this function needs more than 8 registers"
+LIMITS = {CROWD: "registers", "this function is too long for a procedure": "instructions",
           "needs more than 8 registers": "registers", "a procedure has at most": "instructions"}
 """What is said of a function that can't be compiled, by either, and what it has too many of."""
 
@@ -56,6 +57,7 @@ REPLIES = (
     ("const N = -7\nparam M = N\nfn main(n) { return n * M }\n", ("--serial", 6), 0, ('{"job":1,"status":"complete","value":-42}\n', "")),
     ("fn main(n) { return call f(n, 3) }\nfn f(a, b) { return a - b }\n", ("--serial", 5), 0, ('{"job":1,"status":"complete","value":2}\n', "")),
     ("fn main(n) { call f(n); return 3 }\nfn f(n) { return 1 / n }\n", ("--serial",), 0, ('{"fault":1,"job":1,"status":"fault"}\n', "")),
+    ("fn fib(n) { if n < 2 { return n }; let a = spawn fib(n - 1); let b = spawn fib(n - 2); sync; return a + b }\n", ("--serial", 10), 0, ('{"job":1,"status":"complete","value":55}\n', "")),
     ("fn main() { while 1 { } }\n", ("--serial",), 0, ('{"fault":2,"job":1,"status":"fault"}\n', "")),
     ("fn main(n) { return isolate f(n, 3) }\nfn f(a, b) { return a - b }\n", ("--serial", 5), 0, ('{"job":1,"status":"complete","value":2}\n', "")),
     ("cell c\nfn main(n) { return n }\n", ("--serial", 5), 0, ('{"job":1,"status":"complete","value":5}\n', "")),
@@ -174,6 +176,12 @@ def fitting_difference(program: str, source: str, arguments: tuple[int, int], dr
     return said or (f"refused, of arguments {arguments}:\n{source}" if not seen["complete"] else "")
 
 
+def crowded_difference(program: str, source: str) -> str:
+    """What is wrong with a source whose function needs a register more than there are, if something is."""
+    said = compiled(program, source)
+    return "" if said == (1, "", f"1:1: {CROWD}\n") else f"{said}, and no crowd:\n{source}"
+
+
 def packed_difference(program: str, source: str, arguments: tuple[int, int], draws: random.Random) -> str:
     """What is wrong with a source that only the compiler in Python knows the value of, if something is."""
     status, output, said = compiled(program, source, *arguments)
@@ -237,6 +245,7 @@ def main(seed: int = 1, programs: int = 400) -> list[str]:
     found += [said for source, arguments in PACKED if (said := packed_difference(program, source, arguments, draws))]
     found += [said for source, arguments, cells in SHARING if (said := difference(program, source, arguments, draws, Counter(), cells))]
     found += [said for source, arguments in FITTING if (said := fitting_difference(program, source, arguments, draws))]
+    found += [said for source in CROWDED if (said := crowded_difference(program, source))]
     found += example_differences(program, draws)
     found += [said for source, place in REFUSED if (said := refused_difference(program, source, place))]
     found += wrong_replies(program)

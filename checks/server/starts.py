@@ -28,10 +28,11 @@ def wrong_words_are_faults() -> None:
     assert run() == WORDS
     # A word that is no text.
     assert run("--config", "f", "--socket", "s", "--connections", "\udcff") == run("\udcff") == WORDS
-    for words in ["--config f --socket s --connections 65", "--config f --socket s --connections 0",
-                  "--config f --connections 2", "--config f --socket s --connections 2 now",
-                  "--config f --socket s --connections 2 --dump="]:
+    for more in ["65", "0", "-1", "2x", "2 now", "2 --dump", "2 --dump=", "2 --keep=3", "2 --config=f"]:
+        assert run(*"--config f --socket s --connections".split(), *more.split()) == WORDS, more
+    for words in ["--config f --connections 2", "--config f --socket s --dump d"]:
         assert run(*words.split()) == WORDS, words
+    assert run("--config", "f", "--socket", "s", "--connections", "") == WORDS
     # No file has these names, which is found out once the words are right.
     for words in ["--config f --socket s --connections 2", "--dump=d --connections=64 --socket=s --config=f"]:
         assert run(*words.split()) == DEVICE, words

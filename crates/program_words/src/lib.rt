@@ -7,8 +7,6 @@ mod host;
 mod numbers;
 mod options;
 mod server;
-#[cfg(test)]
-mod tests;
 
 pub use durable::Durable;
 pub use faults::WordsFault;

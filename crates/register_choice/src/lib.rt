@@ -9,8 +9,6 @@ mod liveness;
 mod memory;
 mod programs;
 mod rename;
-#[cfg(test)]
-mod tests;
 mod uses;
 
 pub use check::is_coloured;

@@ -1,3 +1,2 @@
 pub mod SourceSerial
 pub mod Agree
-pub mod Refusals

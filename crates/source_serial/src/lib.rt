@@ -2,9 +2,5 @@
 #![tactic(auto)]
 
 mod laws;
-#[cfg(test)]
-mod tests;
-mod values;
 
 pub use laws::{jobs_have_source_values, source_values};
-pub use values::{ValueError, value};
