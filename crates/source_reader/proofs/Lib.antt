@@ -5,3 +5,7 @@ pub mod ItemSteps
 pub mod ParameterSteps
 pub mod BodySteps
 pub mod WidthSteps
+pub mod Bits
+pub mod Taking
+pub mod Packing
+pub mod EachArgument

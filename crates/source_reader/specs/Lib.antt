@@ -36,3 +36,4 @@ pub mod Keys
 pub mod Items
 pub mod Places
 pub mod Source
+pub mod Packed

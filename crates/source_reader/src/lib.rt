@@ -22,6 +22,7 @@ mod inlines;
 mod items;
 mod joining;
 mod keys;
+mod laws;
 mod layouts;
 mod lines;
 mod loops;
@@ -43,5 +44,6 @@ mod waits;
 mod widths;
 
 pub use faults::Wrong;
+pub use laws::widths_keep_arguments;
 pub use places::Place;
 pub use source::{SourceError, SourceFault, function_place, read_source};
