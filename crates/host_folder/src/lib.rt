@@ -2,6 +2,7 @@
 #![tactic(auto)]
 
 mod files;
+mod finishing;
 mod folders;
 mod forgotten;
 mod listing;

@@ -1,20 +1,16 @@
 // Journals that a host left become histories and outcomes: each job that was acknowledged gets its outcome.
 
 use crate::files::bytes_of;
+use crate::finishing::{Finished, finish_part, outcomes_of};
 use crate::folders::{Folder, LeftJournal};
 use crate::shelves::Shelves;
 use dump_files::dump_history;
 use dump_lines::DumpFault;
-use job_language::{Entry, TenantConfig};
-use job_outcomes::JobOutcomes;
-use part_lines::{PartRead, read_part};
 use server_io::ServerFault;
-use std::alloc::{AllocError, Global};
+use std::alloc::Global;
 use std::fs;
 use std::fs::{File, Files};
-use tenant_finish::{Recovered, finish_tenant, recover_tenant};
-use tenant_record::Replay;
-use term_life::{Outcome, running};
+use term_life::running;
 
 /// What became of a journal that a host left.
 #[derive(Clone, Copy, Debug, PartialEq, Eq)]
@@ -33,15 +29,6 @@ pub enum Recovery {
         /// Whether it had an entry that the tenant has not done. The term is finished by those before it.
         is_torn_wrong: bool,
     },
-}
-
-/// What a term was finished to.
-#[derive(Drop)]
-struct Finished {
-    config: TenantConfig,
-    replay: Replay,
-    /// Whether its journal had an entry that the tenant has not done.
-    is_torn_wrong: bool,
 }
 
 /// Finishes a journal that a host left, and writes its history and outcomes; of its tenant's dumps at least `keep` newer
@@ -105,70 +92,16 @@ fn pass_over<R: Files<File = File>>(
     Ok(Recovery::Empty)
 }
 
-/// The tenant that has done what a part says, and whose jobs are finished. None if the part names no tenant.
+/// What a file of a journal or a dump is finished to.
 fn finished_of<R: Files<File = File>>(
     rt: &R,
     alloc: Global,
     path: &str,
 ) -> Result<Option<Finished>, ServerFault> {
-    let Some(part) = part_of(rt, alloc, path)? else {
-        return Ok(None);
-    };
-    let PartRead { config, entries } = part;
-    match recover_tenant(alloc, config, entries)? {
-        Recovered::Tenant(replay) => Ok(Some(finish(config, replay, false))),
-        Recovered::WrongAfter(right) => {
-            let Some(part) = part_of(rt, alloc, path)? else {
-                return Ok(None);
-            };
-            match recover_tenant(alloc, config, first_of(part.entries, right))? {
-                Recovered::Tenant(replay) => Ok(Some(finish(config, replay, true))),
-                Recovered::WrongAfter(_) => Ok(None),
-            }
-        }
-    }
-}
-
-fn finish(config: TenantConfig, replay: Replay, is_torn_wrong: bool) -> Finished {
-    let mut replay = replay;
-    finish_tenant(&mut replay);
-    Finished {
-        config,
-        replay,
-        is_torn_wrong,
-    }
-}
-
-/// The first of some entries.
-fn first_of(entries: Vec<Entry>, count: usize) -> Vec<Entry> {
-    let mut entries = entries;
-    entries.truncate(count);
-    entries
-}
-
-/// What the file of a journal or a dump says.
-fn part_of<R: Files<File = File>>(
-    rt: &R,
-    alloc: Global,
-    path: &str,
-) -> Result<Option<PartRead>, ServerFault> {
     match bytes_of(rt, alloc, path) {
-        Ok(bytes) => Ok(read_part(alloc, bytes.as_slice())?),
+        Ok(bytes) => Ok(finish_part(alloc, bytes.as_slice())?),
         Err(_) => Err(ServerFault::Device),
     }
-}
-
-/// The outcomes of a tenant's jobs, by their numbers outside.
-fn outcomes_of(alloc: Global, replay: &Replay, base: u64) -> Result<Vec<Outcome>, AllocError> {
-    let held = JobOutcomes::of(alloc, replay)?;
-    let mut outcomes = Vec::new(alloc);
-    for outcome in held.as_slice() {
-        outcomes.push(Outcome {
-            job: base.saturating_add(outcome.job),
-            status: outcome.status,
-        })?;
-    }
-    Ok(outcomes)
 }
 
 /// Writes the history of a term that is finished.
