@@ -17,14 +17,16 @@ module _ (bytes : List ℕ) (c : Tenant) (es : List Entry) (old : Replayed) (f :
   said_there = said ∙ ap (λ k. Some (k, es)) (sym config)
 
   pub all_done : old ≡ record { config = c; history = es } → f.is_torn_wrong ≡ false → IsFinishedPart bytes f
-  all_done is whole = record {
-    entries = es;
-    said = said_there;
-    done = length es;
-    all = λ e. refl;
-    wrong = λ e. absurd (true≢false (sym e ∙ whole));
-    finished = subst (λ (r : Replayed). IsFinishedTenant r f.replay) (is ∙ ap (λ k. record { config = k; history = es }) (sym config) ∙ ap (λ h. record { config = f.config; history = h }) (sym (take_all (length es) es (omega arith)))) finished;
-  }
+  all_done is whole =
+      let same : record { config = c; history = es } ≡ record { config = f.config; history = take (length es) es } =
+      ap (λ k. record { config = k; history = es }) (sym config) ∙ ap (λ h. record { config = f.config; history = h }) (sym (take_all (length es) es (omega arith))) in record {
+        entries = es;
+        said = said_there;
+        done = length es;
+        all = λ e. refl;
+        wrong = λ e. absurd (true≢false (sym e ∙ whole));
+        finished = subst (λ (r : Replayed). IsFinishedTenant r f.replay) (is ∙ same) finished;
+      }
 
   pub some_done : (right : ℕ) → IsFirstWrong c es right → old ≡ record { config = c; history = take right es } → f.is_torn_wrong ≡ true → IsFinishedPart bytes f
   some_done right first is torn = record {

@@ -1,6 +1,6 @@
 // The outcomes of a term's jobs, as its file has them: a line for each, with the bytes of the reply to a poll.
-ghost use Rattle.std.specs.Prelude.{◌≡◌, true, IfSome};
-ghost use Rattle.host_folder.specs.Results.{outcome_line};
+ghost use Rattle.std.specs.Prelude.{◌≡◌, true, IfOk, IfSome};
+ghost use Rattle.host_folder.specs.Results.{outcome_line, outcome_lines};
 
 use job_language::{JobFault, Reply, Status};
 use reply_writer::reply_line;
@@ -9,7 +9,9 @@ use std::str;
 use term_life::Outcome;
 
 /// The text of the outcomes.
-pub(crate) fn outcomes_text(alloc: Global, outcomes: &[Outcome]) -> Result<Vec<u8>, AllocError> {
+pub(crate) fn outcomes_text(alloc: Global, outcomes: &[Outcome]) -> Result<Vec<u8>, AllocError>
+    ensures { IfOk result (λ text. text.items ≡ outcome_lines outcomes.now) }
+{
     let mut text = Vec::new(alloc);
     for outcome in outcomes {
         text.extend_from_slice(reply_line(&Reply::Job(outcome.job, outcome.status)).line())?;
