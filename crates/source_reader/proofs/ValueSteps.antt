@@ -1,6 +1,7 @@
 -- One step of reading a value.
 use Rattle.std.proofs.Common.{◌≡◌, ℕ, zero, suc, ◌+◌, ◌-◌, ◌<◌, ◌≤◌, List, [], ◌∷◌, ◌++◌, drop, Some, Result, Ok, Err, refl, ap, ◌∙◌, arith}
 use Rattle.std.proofs.lemmas.Bool.{lt-ltb, le-ltb}
+use Rattle.source_tokens.specs.declared.tokens.BuiltIn.{BuiltIn}
 use Rattle.source_tokens.specs.declared.tokens.Sign.{Sign}
 use Rattle.source_tokens.specs.declared.tokens.Token.{Token}
 use Rattle.source_reader.specs.declared.faults.Fault.{Fault}
@@ -12,7 +13,7 @@ use Rattle.source_reader.specs.Faults.{fault_at, ◌>>=◌, Fails}
 use Rattle.source_reader.specs.Trees.{ExprTree, ValueTree, InlineTree}
 use Rattle.source_reader.specs.Inlines.{given_in}
 use Rattle.source_reader.specs.Joining.{joined}
-use Rattle.source_reader.specs.Values.{Wanted, Level, More, Single, Argument, sign_at, more, behind_argument, step, value_at}
+use Rattle.source_reader.specs.Values.{Wanted, Level, More, Single, Argument, Operand, sign_at, more, behind_argument, behind_operand, step, value_at}
 
 pub value_none : (n : ℕ) (names : Scope) (w : Wanted) (ts : List Token) → n ≡ 0 → value_at n names w ts ≡ Err (fault_at ts wrong.TooLong)
 unfolding value_at
@@ -43,6 +44,11 @@ pub argument_on : (n : ℕ) (names : Scope) (f : InlineTree) (before : List Expr
     → value_at (n - 1) names (Level 0) ts ≡ Ok (v, rest) → given_in v ts ≡ Ok e
     → value_at n names (Argument f before called) ts ≡ behind_argument (value_at (n - 1) names) f (before ++ e ∷ []) called rest
 argument_on n names f before called ts v rest e h ev ee = value_some n names (Argument f before called) ts h ∙ rw (ev, ee) refl
+
+pub operand_on : (n : ℕ) (names : Scope) (f : BuiltIn) (before : List ExprTree) (called ts : List Token) (v : ValueTree) (rest : List Token) (e : ExprTree) → 0 < n
+    → value_at (n - 1) names (Level 0) ts ≡ Ok (v, rest) → given_in v ts ≡ Ok e
+    → value_at n names (Operand f before called) ts ≡ behind_operand (value_at (n - 1) names) f (before ++ e ∷ []) called rest
+operand_on n names f before called ts v rest e h ev ee = value_some n names (Operand f before called) ts h ∙ rw (ev, ee) refl
 
 -- What follows a fault does not matter.
 pub fails_then : {A B : Type 0} (e : ReadError) (r : Result A Fault) (f : A → Result B Fault) → Fails e r → Fails e (r >>= f)

@@ -28,6 +28,7 @@ ahead_by names (kind.Name x) ts = if is_unread (meaning_of x names) then ahead.E
 ahead_by names (kind.Sign sign.And) ts = ahead.Skips
 ahead_by names (kind.Sign sign.Or) ts = ahead.Skips
 ahead_by names kind.LineEnd ts = ahead.Ends
+ahead_by names kind.Semicolon ts = ahead.Ends
 ahead_by names kind.Begin ts = ahead.Ends
 ahead_by names kind.End ts = ahead.Ends
 ahead_by names k ts = ahead.GoesOn

@@ -1,5 +1,5 @@
 -- Cells: what is asked of them, and what is stored.
-use Rattle.std.specs.Prelude.{ℕ, pos, List, [], ◌∷◌, Result, Ok, Err}
+use Rattle.std.specs.Prelude.{ℕ, pos, List, [], ◌∷◌, Result, Ok}
 use Rattle.source_language.specs.declared.syntax.Question.{Question}
 use Rattle.source_language.specs.declared.syntax.Question.TheVariants as question
 use Rattle.source_tokens.specs.declared.tokens.Kind.{Kind}

@@ -1,5 +1,5 @@
 -- What leaves the body of a parallel loop, for one number of its range.
-use Rattle.std.specs.Prelude.{ℕ, ◌+◌, nat_lt, pos, Bool, true, false, List, Option, Some, None, is_none, Result, Ok, Err, if◌then◌else◌}
+use Rattle.std.specs.Prelude.{ℕ, ◌+◌, nat_lt, pos, Bool, true, List, Option, Some, None, is_none, Result, Ok, Err, if◌then◌else◌}
 use Rattle.source_tokens.specs.declared.tokens.Gathers.{Gathers}
 use Rattle.source_tokens.specs.declared.tokens.Gathers.TheVariants as gathers
 use Rattle.source_tokens.specs.declared.tokens.Token.{Token}

@@ -8,6 +8,7 @@ pub mod Folding
 pub mod Truths
 pub mod Joining
 pub mod Inlines
+pub mod BuiltIns
 pub mod Values
 pub mod Constants
 pub mod Lines

@@ -96,6 +96,7 @@ free_name names ts = name_at ts >>= λ x. unless_known (meaning_of x names) x ts
 
 abbrev pub is_line_end : Kind → Bool
 is_line_end kind.LineEnd = true
+is_line_end kind.Semicolon = true
 is_line_end k = false
 
 abbrev pub is_end : Kind → Bool

@@ -30,6 +30,7 @@ question_by g = None
 -- whether what stands before a block, or on the line, ends here
 abbrev pub ends_head : Kind → Bool
 ends_head kind.LineEnd = true
+ends_head kind.Semicolon = true
 ends_head kind.Begin = true
 ends_head kind.End = true
 ends_head k = false

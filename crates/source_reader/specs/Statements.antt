@@ -6,7 +6,7 @@ use Rattle.source_tokens.specs.declared.tokens.Token.{Token}
 use Rattle.source_reader.specs.declared.faults.Fault.{Fault}
 use Rattle.source_reader.specs.declared.faults.Wrong.TheVariants as wrong
 use Rattle.source_reader.specs.Faults.{◌>>=◌, fault_at}
-use Rattle.source_reader.specs.Trees.{StmtTree, SkipTree, ThenTree, IfTree, LoopTree, BreakTree, ContinueTree}
+use Rattle.source_reader.specs.Trees.{SkipTree, ThenTree, IfTree, LoopTree, BreakTree, ContinueTree}
 use Rattle.source_reader.specs.declared.names.Meaning.{Meaning}
 use Rattle.source_reader.specs.declared.names.Meaning.TheVariants as meaning
 use Rattle.source_reader.specs.declared.names.Task.{Task}

@@ -3,6 +3,7 @@ use Rattle.std.specs.Prelude.{ℕ, zero, suc, ◌+◌, ◌-◌, ◌==◌, ◌||�
 use Rattle.std.specs.Ordering.{int_eq}
 use Rattle.source_tokens.specs.declared.tokens.Sign.{Sign}
 use Rattle.source_tokens.specs.declared.tokens.Sign.TheVariants as sign
+use Rattle.source_tokens.specs.declared.tokens.BuiltIn.{BuiltIn}
 use Rattle.source_tokens.specs.declared.tokens.Kind.{Kind}
 use Rattle.source_tokens.specs.declared.tokens.Kind.TheVariants as kind
 use Rattle.source_tokens.specs.declared.tokens.Token.{Token}
@@ -18,6 +19,8 @@ use Rattle.source_reader.specs.Waits.{awaited_at}
 use Rattle.source_reader.specs.Joining.{level_of, test_in, minus, complement, joined}
 use Rattle.source_reader.specs.Marks.{unexpected, after_open, after_close, is_close, wrong_count, after_last, before_next}
 use Rattle.source_reader.specs.Inlines.{given_in, inserted}
+use Rattle.source_reader.specs.BuiltIns.{built_in}
+use Rattle.source_reader.specs.Lines.{after_comma}
 
 -- the operator of that level at the front
 abbrev pub sign_of : ℕ → Kind → Option Sign
@@ -28,12 +31,14 @@ abbrev pub sign_at : ℕ → List Token → Option Sign
 sign_at l [] = None
 sign_at l (t ∷ ts) = sign_of l t.kind
 
--- What is read: a value of operators of that level and tighter ones; more of them behind a value; one without operators; or, behind arguments of an inline function, one more and what is inserted.
+-- What is read: a value of operators of that level and tighter ones; more of them behind a value; one without operators; or, behind arguments of an
+-- inline function, or of one that the language has, one more and what is inserted.
 pub data Wanted : Type 0 where
   Level : ℕ → Wanted
   More : ℕ → ValueTree → Wanted
   Single : Wanted
   Argument : InlineTree → (before : List ExprTree) → (called : List Token) → Wanted
+  Operand : BuiltIn → (before : List ExprTree) → (called : List Token) → Wanted
 
 -- a value, and the tokens after it
 abbrev pub Read : Type 0
@@ -126,9 +131,28 @@ one_argument next f before called ts = do
   e ← given_in v.0 ts
   behind_argument next f (before ++ e ∷ []) called v.1
 
+-- behind the name of a function of the language, which is the first of the tokens `called`
+abbrev pub operands_of : (Wanted → List Token → Read) → BuiltIn → (called ts : List Token) → Read
+operands_of next f called ts = do
+  inside ← after_open ts
+  if is_close inside then wrong_count called else next (Operand f [] called) inside
+
+-- behind these arguments: the end, or another one
+abbrev pub behind_operand : (Wanted → List Token → Read) → BuiltIn → List ExprTree → (called ts : List Token) → Read
+behind_operand next f es called ts =
+    if is_close ts then (built_in f es called >>= λ e. Ok (NumberTree e, drop 1 ts))
+    else (after_comma ts >>= λ rest. next (Operand f es called) rest)
+
+abbrev pub one_operand : (Wanted → List Token → Read) → BuiltIn → List ExprTree → (called ts : List Token) → Read
+one_operand next f before called ts = do
+  v ← next (Level 0) ts
+  e ← given_in v.0 ts
+  behind_operand next f (before ++ e ∷ []) called v.1
+
 abbrev pub single_of : (Wanted → List Token → Read) → Scope → Kind → List Token → List Token → Read
 single_of next names (kind.Number n) ts rest = Ok (NumberTree (Constant n), rest)
 single_of next names (kind.Name x) ts rest = named_or next (inline_of x names) (meaning_of x names) ts rest
+single_of next names (kind.BuiltIn f x) ts rest = operands_of next f ts rest
 single_of next names (kind.Sign sign.Minus) ts rest = negative next ts rest
 single_of next names kind.Complement ts rest = complemented next ts rest
 single_of next names kind.Not ts rest = next Single rest >>= λ v. Ok (TruthTree (NotTree (test_in v.0)), v.1)
@@ -152,6 +176,7 @@ step next names (Level l) ts = if nat_lt l 9 then (next (Level (l + 1)) ts >>= �
 step next names (More l left) ts = more next l left (sign_at l ts) ts
 step next names Single ts = single next names ts
 step next names (Argument f before called) ts = one_argument next f before called ts
+step next names (Operand f before called) ts = one_operand next f before called ts
 
 -- The number bounds how deep values are nested and how many operators there are.
 unfoldable pub value_at : ℕ → Scope → Wanted → List Token → Read

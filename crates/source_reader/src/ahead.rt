@@ -44,6 +44,7 @@ fn ahead_by(names: &Names, kind: Kind, rest: &[Token]) -> Ahead
         Kind::Sign(Sign::And) => Ahead::Skips,
         Kind::Sign(Sign::Or) => Ahead::Skips,
         Kind::LineEnd => Ahead::Ends,
+        Kind::Semicolon => Ahead::Ends,
         Kind::Begin => Ahead::Ends,
         Kind::End => Ahead::Ends,
         _ => Ahead::GoesOn,

@@ -157,7 +157,7 @@ pub(crate) fn if_short(value: Value, tokens: &[Token]) -> Result<Value, ReadErro
     }
 }
 
-fn short_number(e: Expr, tokens: &[Token]) -> Result<Expr, ReadError>
+pub(crate) fn short_number(e: Expr, tokens: &[Token]) -> Result<Expr, ReadError>
     ensures { Gives tree_of result (short_number (tree_of e) tokens.now) }
 {
     if operators_in(&e) > OPERATORS {

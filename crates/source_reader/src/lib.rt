@@ -4,6 +4,7 @@
 mod ahead;
 mod arguments;
 mod bodies;
+mod built_ins;
 mod calls;
 mod cells;
 mod constants;
@@ -28,6 +29,7 @@ mod lines;
 mod loops;
 mod marks;
 mod names;
+mod operands;
 mod parameters;
 mod places;
 mod questions;

@@ -100,12 +100,13 @@ pub(crate) fn free_name(names: &Names, tokens: &[Token]) -> Result<usize, ReadEr
     }
 }
 
-/// Whether it is the end of a line.
+/// Whether it is the end of a line, or `;`.
 pub(crate) fn is_line_end(kind: Kind) -> bool
     ensures { result ≡ is_line_end kind }
 {
     match kind {
         Kind::LineEnd => true,
+        Kind::Semicolon => true,
         _ => false,
     }
 }

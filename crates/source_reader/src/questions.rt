@@ -51,6 +51,7 @@ fn ends_head(kind: Kind) -> bool
 {
     match kind {
         Kind::LineEnd => true,
+        Kind::Semicolon => true,
         Kind::Begin => true,
         Kind::End => true,
         _ => false,

@@ -2,19 +2,21 @@
 ghost use Rattle.std.specs.Prelude.{◌≡◌, map};
 ghost use Rattle.source_reader.specs.Faults.{Gives};
 ghost use Rattle.source_reader.specs.Trees.{tree_of, value_tree_of, inline_tree_of};
-ghost use Rattle.source_reader.specs.Names.{names_of, meaning_of};
-ghost use Rattle.source_reader.specs.Values.{has_opposite, worth, named, awaited_value, without_arguments, applied, behind_argument, value_at, whole_value, Level, More, Single, Argument};
+ghost use Rattle.source_reader.specs.Names.{names_of};
+ghost use Rattle.source_reader.specs.Values.{applied, behind_argument, operands_of, behind_operand, value_at, whole_value, Level, More, Single, Argument, Operand};
 
+use crate::built_ins::built_in;
 use crate::faults::{ReadError, Wrong, fault_at};
 use crate::inlines::{Inline, given_in, inserted, no_argument};
 use crate::joining::{Value, complement, joined, minus, opposite, sign_at};
+use crate::lines::after_comma;
 use crate::marks::{
     after_close, after_first, after_last, after_open, before_next, is_close, left_behind,
 };
-use crate::names::{Meaning, Names, asked_in, inline_of, meaning_of};
-use crate::waits::awaited_at;
+use crate::names::{Names, asked_in, inline_of};
+use crate::operands::{awaited_value, has_opposite, named, without_arguments};
 use source_language::Expr;
-use source_tokens::{Kind, Sign, Token};
+use source_tokens::{BuiltIn, Kind, Sign, Token};
 use std::alloc::Global;
 
 /// How long a value may be.
@@ -22,71 +24,6 @@ pub const VALUE_FUEL: u16 = 600;
 
 /// The level above the tightest operators.
 const LEVELS: u8 = 9;
-
-/// Whether a minus sign may stand before this. The opposite of 2^63 is a number, but not those of the numbers above.
-fn has_opposite(tokens: &[Token]) -> bool
-    ensures { result ≡ has_opposite tokens.now }
-{
-    match tokens.split_first() {
-        Some((first, _)) => match first.kind {
-            Kind::Number(n) => 0 <= n || n == i64::MIN,
-            _ => true,
-        },
-        None => true,
-    }
-}
-
-/// What a name is worth that stands for this. It is the first of the tokens. No expression asks a cell.
-fn worth(meaning: Meaning, tokens: &[Token]) -> Result<Expr, ReadError>
-    ensures { Gives tree_of result (worth meaning tokens.now) }
-{
-    match meaning {
-        Meaning::Variable(number) => Ok(Expr::Variable(number)),
-        Meaning::Counter(number) => Ok(Expr::Variable(number)),
-        Meaning::Constant(number) => Ok(Expr::Number(number)),
-        Meaning::Awaited(number) => Ok(Expr::Variable(number)),
-        Meaning::Closed(_) => Err(fault_at(tokens, Wrong::GroupValue)),
-        Meaning::Task(_) => Err(fault_at(tokens, Wrong::NotWaited)),
-        Meaning::OuterTask(_) => Err(fault_at(tokens, Wrong::NotWaited)),
-        Meaning::Cell(_) => Err(fault_at(tokens, Wrong::CellValue)),
-        Meaning::Inline => Err(fault_at(tokens, Wrong::Unexpected)),
-    }
-}
-
-/// The value of that name, which is the first of the tokens.
-fn named<'a>(
-    name: usize,
-    names: &Names,
-    tokens: &[Token],
-    rest: &'a [Token],
-) -> Result<(Value, &'a [Token]), ReadError>
-    ensures { Gives (λ x. (value_tree_of x.0, x.1.now)) result
-        (named (meaning_of name (names_of names.now)) tokens.now rest.entry.now) }
-{
-    match meaning_of(name, names) {
-        Some(meaning) => Ok((Value::Number(worth(meaning, tokens)?), rest)),
-        None => Err(fault_at(tokens, Wrong::UnknownName)),
-    }
-}
-
-/// The value of a task, behind `wait`.
-fn awaited_value<'a>(names: &Names, tokens: &'a [Token]) -> Result<(Value, &'a [Token]), ReadError>
-    ensures { Gives (λ x. (value_tree_of x.0, x.1.now)) result
-        (awaited_value (names_of names.now) tokens.entry.now) }
-{
-    let number = awaited_at(names, tokens)?;
-    Ok((Value::Number(Expr::Variable(number)), after_first(tokens)))
-}
-
-/// A value that takes no arguments, before `()`.
-fn without_arguments(e: Expr, rest: &[Token]) -> Result<(Value, &[Token]), ReadError>
-    ensures { Gives (λ x. (value_tree_of x.0, x.1.now)) result
-        (without_arguments (tree_of e) rest.now) }
-{
-    let inside = after_open(rest)?;
-    let after = after_close(inside)?;
-    Ok((Value::Number(e), after))
-}
 
 /// A value of operators of that level and of tighter ones, and the tokens after it.
 #[tactic(auto, using(crate::proofs::ValueSteps::value_steps))]
@@ -157,10 +94,8 @@ fn single_at<'a>(
         return Err(fault_at(tokens, Wrong::Unexpected));
     };
     if let Some((number, behind)) = asked_in(tokens.len(), names) {
-        return Ok((
-            Value::Number(Expr::Variable(number)),
-            left_behind(tokens, behind),
-        ));
+        let asked = Value::Number(Expr::Variable(number));
+        return Ok((asked, left_behind(tokens, behind)));
     }
     match first.kind {
         Kind::Number(n) => Ok((Value::Number(Expr::Number(n)), rest)),
@@ -168,6 +103,9 @@ fn single_at<'a>(
             Some(inline) => applied_at(alloc, names, fuel - 1, inline, tokens, rest),
             None => named(name, names, tokens, rest),
         },
+        Kind::BuiltIn(function, _) => {
+            operands_of(alloc, names, fuel - 1, function, tokens, rest)
+        }
         Kind::Slot => without_arguments(Expr::Slot, rest),
         Kind::Width => without_arguments(Expr::Width, rest),
         Kind::Wait => awaited_value(names, rest),
@@ -260,13 +198,90 @@ fn behind_argument<'a>(
 {
     if arguments.len() == usize::from(inline.parameters) {
         let after = after_last(called, tokens)?;
-        Ok((
-            inserted(alloc, inline, arguments.as_slice(), called)?,
-            after,
-        ))
+        let value = inserted(alloc, inline, arguments.as_slice(), called)?;
+        Ok((value, after))
     } else {
         let rest = before_next(called, tokens)?;
         argument_at(alloc, names, fuel, inline, arguments, called, rest)
+    }
+}
+
+/// What is inserted for a function of the language, behind its name, which is the first of the tokens `called`.
+#[cycle(values)]
+fn operands_of<'a>(
+    alloc: Global,
+    names: &Names,
+    fuel: u16,
+    function: BuiltIn,
+    called: &[Token],
+    tokens: &'a [Token],
+) -> Result<(Value, &'a [Token]), ReadError>
+    ensures { Gives (λ x. (value_tree_of x.0, x.1.now)) result
+        (operands_of (value_at fuel (names_of names.now)) function called.now tokens.entry.now) }
+{
+    let inside = after_open(tokens)?;
+    if is_close(inside) {
+        Err(fault_at(called, Wrong::ArgumentCount))
+    } else {
+        operand_at(
+            alloc,
+            names,
+            fuel,
+            function,
+            Vec::new(alloc),
+            called,
+            inside,
+        )
+    }
+}
+
+/// One more argument of a function of the language, behind those before, and what is inserted for the function.
+#[tactic(auto, using(crate::proofs::ValueSteps::value_steps))]
+#[cycle(values)]
+fn operand_at<'a>(
+    alloc: Global,
+    names: &Names,
+    fuel: u16,
+    function: BuiltIn,
+    before: Vec<Expr>,
+    called: &[Token],
+    tokens: &'a [Token],
+) -> Result<(Value, &'a [Token]), ReadError>
+    ensures { Gives (λ x. (value_tree_of x.0, x.1.now)) result
+        (value_at fuel (names_of names.now)
+        (Operand function (map tree_of before.items) called.now) tokens.entry.now) }
+{
+    if fuel == 0 {
+        return Err(fault_at(tokens, Wrong::TooLong));
+    }
+    let (value, rest) = value_at(alloc, names, fuel - 1, 0, tokens)?;
+    let argument = given_in(alloc, value, tokens)?;
+    let mut arguments = before;
+    arguments.push(argument)?;
+    behind_operand(alloc, names, fuel - 1, function, arguments, called, rest)
+}
+
+/// What is inserted for a function of the language, behind an argument, which is the last one of these.
+#[cycle(values)]
+fn behind_operand<'a>(
+    alloc: Global,
+    names: &Names,
+    fuel: u16,
+    function: BuiltIn,
+    arguments: Vec<Expr>,
+    called: &[Token],
+    tokens: &'a [Token],
+) -> Result<(Value, &'a [Token]), ReadError>
+    ensures { Gives (λ x. (value_tree_of x.0, x.1.now)) result
+        (behind_operand (value_at fuel (names_of names.now))
+        function (map tree_of arguments.items) called.now tokens.entry.now) }
+{
+    if is_close(tokens) {
+        let e = built_in(alloc, function, arguments.as_slice(), called)?;
+        Ok((Value::Number(e), after_first(tokens)))
+    } else {
+        let rest = after_comma(tokens)?;
+        operand_at(alloc, names, fuel, function, arguments, called, rest)
     }
 }
 

@@ -1,2 +1,3 @@
 pub mod Lexing
 pub mod Scanned
+pub mod Breaking

@@ -6,10 +6,10 @@ use Rattle.std.proofs.lemmas.List.{append-nil, map_push, take_all, take_more}
 use Rattle.source_tokens.specs.declared.lexemes.Lexeme.{Lexeme}
 use Rattle.source_tokens.specs.declared.tokens.Token.{Token}
 use Rattle.source_tokens.specs.Lexemes.{view_lexeme, lexemes_of}
-use Rattle.source_tokens.specs.Tokens.{token_of, tokens_of}
+use Rattle.source_tokens.specs.Tokens.{token_of, each_token}
 
 pub all_scanned : (text : List ℕ) (ls : List Lexeme) (i : ℕ) (out : List Token) → length ls ≤ i → map view_lexeme ls ≡ lexemes_of text →
-    out ≡ flat_map (token_of (map view_lexeme ls)) (map view_lexeme (take i ls)) → out ≡ tokens_of text
+    out ≡ flat_map (token_of (map view_lexeme ls)) (map view_lexeme (take i ls)) → out ≡ each_token text
 all_scanned text ls i out le e h =
     let k : take i ls ≡ ls = take_all i ls le in
     h ∙ rw (k, e) refl

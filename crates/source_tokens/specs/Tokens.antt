@@ -9,6 +9,8 @@ use Rattle.source_tokens.specs.Bytes.{is_space, is_digit, is_letter}
 use Rattle.source_tokens.specs.Numbers.{number_of, width_of}
 use Rattle.source_tokens.specs.Words.{kind_named}
 use Rattle.source_tokens.specs.Lexemes.{lexemes_of}
+use Rattle.source_tokens.specs.Breaks.{unbroken}
+use Rattle.source_tokens.specs.BuiltIns.{name_kind as name_kind_of, settled}
 
 -- a space or a comment
 abbrev pub is_blank : List ℕ → Bool
@@ -28,13 +30,13 @@ number_or_other None = kind.Other
 abbrev pub number_kind : List ℕ → Kind
 number_kind text = number_or_other (number_of text)
 
-abbrev pub name_or_other : Option ℕ → Kind
-name_or_other (Some n) = kind.Name n
-name_or_other None = kind.Other
+abbrev pub name_or_other : List ℕ → Option ℕ → Kind
+name_or_other text (Some n) = name_kind_of text n
+name_or_other text None = kind.Other
 
 -- A name is known by the first lexeme that is the same.
 abbrev pub name_kind : List ℕ → List (ℕ × List ℕ) → Kind
-name_kind text all = name_or_other (first_with text 0 all)
+name_kind text all = name_or_other text (first_with text 0 all)
 
 abbrev pub other_kind : List ℕ → List (ℕ × List ℕ) → Kind
 other_kind [] all = kind.Other
@@ -51,5 +53,9 @@ kind_of text all = kind_or (kind_named text) (other_kind text all)
 abbrev pub token_of : List (ℕ × List ℕ) → ℕ × List ℕ → List Token
 token_of all l = if is_blank l.1 then [] else record { kind = kind_of l.1 all; at = l.0; bits = width_of l.1 } ∷ []
 
+-- the token of each lexeme
+abbrev pub each_token : List ℕ → List Token
+each_token text = flat_map (token_of (lexemes_of text)) (lexemes_of text)
+
 abbrev pub tokens_of : List ℕ → List Token
-tokens_of text = flat_map (token_of (lexemes_of text)) (lexemes_of text)
+tokens_of text = settled (unbroken (each_token text))

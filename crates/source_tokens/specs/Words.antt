@@ -138,7 +138,7 @@ word_named lexeme = first_of (opening_word lexeme) (first_of (choice_word lexeme
 abbrev pub mark_named : List ℕ → Option Kind
 mark_named lexeme =
     if bytes_eq lexeme (10 ∷ []) then Some kind.LineEnd
-    else if bytes_eq lexeme (codes ";") then Some kind.LineEnd
+    else if bytes_eq lexeme (codes ";") then Some kind.Semicolon
     else if bytes_eq lexeme (codes "(") then Some kind.Open
     else if bytes_eq lexeme (codes ")") then Some kind.Close
     else if bytes_eq lexeme (codes "{") then Some kind.Begin

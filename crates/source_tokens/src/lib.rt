@@ -1,6 +1,8 @@
 //! The tokens of a source of the job language.
 #![tactic(auto)]
 
+mod breaks;
+mod built_ins;
 mod bytes;
 mod lexemes;
 mod numbers;
@@ -10,4 +12,4 @@ mod tokens;
 mod words;
 
 pub use scanning::tokens_in;
-pub use tokens::{Gathers, Kind, Part, Sign, Token};
+pub use tokens::{BuiltIn, Gathers, Kind, Part, Sign, Token};

@@ -1,8 +1,10 @@
 // Tokens of a text.
 ghost use Rattle.std.specs.Prelude.{◌≡◌, ◌++◌, ◌+◌, ◌<◌, ◌^◌, length, map, IfOk, OnOk};
 ghost use Rattle.source_tokens.specs.Lexemes.{view_lexeme};
-ghost use Rattle.source_tokens.specs.Tokens.{is_blank, first_with, number_kind, name_kind, other_kind, kind_of, token_of, tokens_of};
+ghost use Rattle.source_tokens.specs.Tokens.{is_blank, first_with, number_kind, name_kind, other_kind, kind_of, token_of, each_token, tokens_of};
 
+use crate::breaks::unbroken;
+use crate::built_ins::{name_kind as name_kind_of, settled};
 use crate::bytes::{is_digit, is_letter, is_space};
 use crate::lexemes::{Lexeme, lexemes_of};
 use crate::numbers::{number_of, width_of};
@@ -53,7 +55,7 @@ fn name_kind(text: &[u8], all: &[Lexeme]) -> Kind
     ensures { result ≡ name_kind text.now (map view_lexeme all.now) }
 {
     match first_with(text, all, 0) {
-        Some(place) => Kind::Name(place),
+        Some(place) => name_kind_of(text, place),
         None => Kind::Other,
     }
 }
@@ -100,9 +102,9 @@ fn add_token(out: &mut Vec<Token>, lexeme: &Lexeme, all: &[Lexeme]) -> Result<()
     Ok(())
 }
 
-/// The tokens of a text.
-pub fn tokens_in(alloc: Global, text: &[u8]) -> Result<Vec<Token>, AllocError>
-    ensures { IfOk result (λ ts. ts.items ≡ tokens_of text.now) }
+/// The token of each lexeme of a text.
+fn each_token(alloc: Global, text: &[u8]) -> Result<Vec<Token>, AllocError>
+    ensures { IfOk result (λ ts. ts.items ≡ each_token text.now) }
 {
     let lexemes = lexemes_of(alloc, text)?;
     let mut out = Vec::new(alloc);
@@ -110,4 +112,13 @@ pub fn tokens_in(alloc: Global, text: &[u8]) -> Result<Vec<Token>, AllocError>
         add_token(&mut out, lexeme, lexemes.as_slice())?;
     }
     Ok(out)
+}
+
+/// The tokens of a text.
+pub fn tokens_in(alloc: Global, text: &[u8]) -> Result<Vec<Token>, AllocError>
+    ensures { IfOk result (λ ts. ts.items ≡ tokens_of text.now) }
+{
+    let each = each_token(alloc, text)?;
+    let joined = unbroken(alloc, each.as_slice())?;
+    settled(alloc, joined.as_slice())
 }

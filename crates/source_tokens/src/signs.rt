@@ -24,7 +24,7 @@ pub(crate) fn mark_named(lexeme: &[u8]) -> Option<Kind>
 {
     match lexeme {
         b"\n" => Some(Kind::LineEnd),
-        b";" => Some(Kind::LineEnd),
+        b";" => Some(Kind::Semicolon),
         b"(" => Some(Kind::Open),
         b")" => Some(Kind::Close),
         b"{" => Some(Kind::Begin),

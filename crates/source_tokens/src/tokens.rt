@@ -46,12 +46,25 @@ pub enum Gathers {
     Greatest,
 }
 
+/// A function that the language has, unless the source has one of its name.
+#[derive(Clone, Copy, Debug, PartialEq, Eq)]
+pub enum BuiltIn {
+    /// `min`
+    Min,
+    /// `max`
+    Max,
+    /// `abs`
+    Abs,
+}
+
 /// What a token is.
 #[derive(Clone, Copy, Debug, PartialEq, Eq)]
 pub enum Kind {
     Number(i64),
     /// A name, by the first lexeme that has it.
     Name(usize),
+    /// A function that the language has, before `(`, and its name.
+    BuiltIn(BuiltIn, usize),
     Sign(Sign),
     /// `+=` and the like.
     Update(Operator),
@@ -73,8 +86,10 @@ pub enum Kind {
     Colon,
     /// `..`
     Range,
-    /// The end of a line, or `;`.
+    /// The end of a line that is not broken there.
     LineEnd,
+    /// `;`
+    Semicolon,
     Fn,
     /// The name of the function that the root runs.
     Main,

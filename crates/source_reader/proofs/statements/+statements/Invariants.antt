@@ -1,4 +1,4 @@
-use Rattle.std.proofs.Common.{ℕ, ◌+◌, ◌*◌}
+use Rattle.std.proofs.Common.{◌+◌, ◌*◌}
 use Rattle.source_reader.proofs.statements.+statements.Given as goal
 
 abbrev pub decreases-block_at : goal.decreases-block_at

@@ -1,4 +1,4 @@
-use Rattle.std.proofs.Common.{rules, ◌≡◌, ◌-◌, ◌+◌, List, [], ◌∷◌, ◌++◌, map, drop, Some, Ok, sym, ap, subst, ◌∙◌, arith}
+use Rattle.std.proofs.Common.{rules, ◌≡◌, ◌-◌, ◌+◌, [], ◌∷◌, ◌++◌, map, drop, Some, Ok, sym, ap, subst, ◌∙◌, arith}
 use Rattle.std.proofs.lemmas.List.{map-append}
 use Rattle.std.proofs.lemmas.Result.{err_from_is_err_and}
 use Rattle.source_reader.specs.Names.{names_of}
@@ -6,7 +6,7 @@ use Rattle.source_reader.specs.Trees.{tree_of, value_tree_of, inline_tree_of}
 use Rattle.source_reader.specs.Faults.{Fails}
 use Rattle.source_reader.specs.Joining.{joined}
 use Rattle.source_reader.specs.Values.{sign_at, value_at, Level}
-use Rattle.source_reader.proofs.ValueSteps.{level_single, level_more, more_on, argument_on, right_fails, both_fail}
+use Rattle.source_reader.proofs.ValueSteps.{level_single, level_more, more_on, argument_on, operand_on, right_fails, both_fail}
 use Rattle.source_reader.proofs.values.+values.Goals as goal
 
 pub value_at-returns-then-level-ge-LEVELS : goal.value_at-returns-then-level-ge-LEVELS
@@ -69,6 +69,18 @@ argument_at-returns t c =
     let pushed : map tree_of before ++ tree_of a.argument ∷ [] ≡ map tree_of (before ++ a.argument ∷ []) = sym (map-append tree_of before (a.argument ∷ [])) in
     rw (
       argument_on c.args.fuel (names_of c.args.names.now) (inline_tree_of c.args.inline.now) (map tree_of before) c.args.called.now c.args.tokens.now
+          (value_tree_of h.value) h.rest.now (tree_of a.argument) (omega arith) h.ensures a.ensures,
+      pushed,
+    ) (search rules)
+
+pub operand_at-returns : goal.operand_at-returns
+operand_at-returns t c =
+    let h = c.in_ok-value in
+    let a = c.in_ok-argument in
+    let before = c.args.before.items in
+    let pushed : map tree_of before ++ tree_of a.argument ∷ [] ≡ map tree_of (before ++ a.argument ∷ []) = sym (map-append tree_of before (a.argument ∷ [])) in
+    rw (
+      operand_on c.args.fuel (names_of c.args.names.now) c.args.function (map tree_of before) c.args.called.now c.args.tokens.now
           (value_tree_of h.value) h.rest.now (tree_of a.argument) (omega arith) h.ensures a.ensures,
       pushed,
     ) (search rules)

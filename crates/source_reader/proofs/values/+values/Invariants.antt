@@ -1,4 +1,4 @@
-use Rattle.std.proofs.Common.{ℕ, ◌+◌, ◌*◌}
+use Rattle.std.proofs.Common.{◌+◌, ◌*◌}
 use Rattle.source_reader.proofs.values.+values.Given as goal
 
 abbrev pub decreases-value_at : goal.decreases-value_at
@@ -18,3 +18,12 @@ decreases-behind_argument l = 2 * l.fuel + 1
 
 abbrev pub decreases-argument_at : goal.decreases-argument_at
 decreases-argument_at l = 2 * l.fuel
+
+abbrev pub decreases-operands_of : goal.decreases-operands_of
+decreases-operands_of l = 2 * l.fuel + 1
+
+abbrev pub decreases-behind_operand : goal.decreases-behind_operand
+decreases-behind_operand l = 2 * l.fuel + 1
+
+abbrev pub decreases-operand_at : goal.decreases-operand_at
+decreases-operand_at l = 2 * l.fuel

@@ -1,7 +1,7 @@
 use Rattle.std.proofs.Common.{map, ap, sym, ◌∙◌}
 use Rattle.source_tokens.specs.Lexemes.{view_lexeme}
 use Rattle.source_tokens.proofs.Scanned.{all_scanned, one_scanned}
-use Rattle.source_tokens.proofs.scanning.tokens_in.Goals as goal
+use Rattle.source_tokens.proofs.scanning.each_token.Goals as goal
 
 pub returns : goal.returns
 returns c =
