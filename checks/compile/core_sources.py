@@ -93,7 +93,9 @@ class Sources:
         return f"inline fn {inline.name}({', '.join(self.names)}) = {value}\n"
 
     def insertion(self) -> str:
-        """A use of an inline function, if one fits here."""
+        """A use of an inline function, if one fits here, or of one that the language has."""
+        if self.draws.random() < 0.05:
+            return self.built_in()
         fitting = [it for it in self.inlines if self.may_divide or not it.divides]
         if not fitting or self.draws.random() < 0.75:
             return ""
@@ -101,6 +103,13 @@ class Sources:
         given = ", ".join(self.value(1) for _ in range(inline.parameters))
         self.may_divide = before
         return f"{inline.name}({given})"
+
+    def built_in(self) -> str:
+        """A use of `min`, `max` or `abs`."""
+        name, before, self.may_divide = self.draws.choice(("min", "max", "abs")), self.may_divide, False
+        given = ", ".join(self.value(self.draws.choice((0, 0, 1))) for _ in range(1 if name == "abs" else self.draws.choice((2, 2, 3))))
+        self.may_divide = before
+        return f"{name}({given})"
 
     def items_of_cells(self) -> str:
         """The items of a few cells, some of which choose their keys."""

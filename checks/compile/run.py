@@ -1,7 +1,7 @@
 #!/usr/bin/env python3
 """Compares arena-compile with the compiler in Python, and both with the interpreter of checks/python, which was written from
 docs/LANGUAGE.md alone, on drawn sources, and on some with numbers, bits, loops that count, constants, calls, tasks, groups, cells,
-inline functions, parallel loops, calls inside values, and widths, at their edges: what both make is rehearsed on drawn schedules, and what `arena-compile --serial` prints must
+inline functions, parallel loops, calls inside values, widths, broken lines, and `min`, `max` and `abs`, at their edges: what both make is rehearsed on drawn schedules, and what `arena-compile --serial` prints must
 be the line of the interpreter's value. Of the examples in examples/jobs those that it takes must give what they say. Sources with
 faults must be refused at the first one. The last line says how many.
 
@@ -23,6 +23,8 @@ sys.path[:0] = [str(TOP / "checks" / "python"), str(TOP / "checks" / "build"), s
 
 from asking_sources import ASKING  # noqa: E402
 from bit_sources import BITS  # noqa: E402
+from broken_sources import BROKEN, FURTHER, broken  # noqa: E402
+from built_in_sources import BUILT_IN  # noqa: E402
 from calling_sources import CALLING  # noqa: E402
 from core_sources import Sources  # noqa: E402
 from counting_sources import COUNTING  # noqa: E402
@@ -86,6 +88,9 @@ CANCELS = re.compile(r"\bcancel \w+;?")
 
 FEWEST = {"complete": 0.4, "fault": 0.01}
 """Which share of the programs is at least so."""
+
+BREAKING = 0.3
+"""Of which share of the programs some lines are broken."""
 
 MOST_CROWDED = 0.05
 """Which share of the programs may be refused for registers."""
@@ -236,13 +241,14 @@ def main(seed: int = 1, programs: int = 400) -> list[str]:
     draws, seen, found = random.Random(seed), Counter[str](), []
     sources = Sources(draws)
     for _ in range(programs):
-        source, arguments = sources.source(), (draws.randint(-5, 9), draws.randint(-5, 9))
+        source = sources.source()
+        source, arguments = broken(source, draws) if draws.random() < BREAKING else source, (draws.randint(-5, 9), draws.randint(-5, 9))
         said = difference(program, source, arguments, draws, seen)
         found += [said] if said else []
-    found += [said for source, arguments in (*BITS, *COUNTING, *CALLING, *WAITING, *GROUPS, *INLINES, *PARALLEL, *ASKING, *WIDTHS) if (said := difference(program, source, arguments, draws, Counter()))]
+    found += [said for source, arguments in (*BITS, *COUNTING, *CALLING, *WAITING, *GROUPS, *INLINES, *PARALLEL, *ASKING, *WIDTHS, *BROKEN, *BUILT_IN) if (said := difference(program, source, arguments, draws, Counter()))]
     shared = [drawn_source(draws) for _ in range(max(1, programs // 8))]
     found += [said for source, arguments in shared if (said := difference(program, source, arguments, draws, Counter()))]
-    found += [said for source, arguments in PACKED if (said := packed_difference(program, source, arguments, draws))]
+    found += [said for source, arguments in (*PACKED, *FURTHER) if (said := packed_difference(program, source, arguments, draws))]
     found += [said for source, arguments, cells in SHARING if (said := difference(program, source, arguments, draws, Counter(), cells))]
     found += [said for source, arguments in FITTING if (said := fitting_difference(program, source, arguments, draws))]
     found += [said for source in CROWDED if (said := crowded_difference(program, source))]
@@ -259,7 +265,7 @@ def main(seed: int = 1, programs: int = 400) -> list[str]:
         print(f"too many programs are refused for registers: {seen['registers']}")
     shown = ", ".join(f"{count} {kind}" for kind, count in sorted(seen.items()))
     print(f"{programs} sources by two compilers ({shown}), {len(BITS)} with bits, {len(COUNTING)} that count, {len(CALLING)} that call, "
-          f"{len(WAITING)} that wait, {len(GROUPS)} with groups, {len(INLINES)} with inline functions, {len(PARALLEL)} with parallel loops, {len(ASKING)} with calls and the like inside values, {len(WIDTHS) + len(PACKED) + len(shared)} with widths, {len(SHARING)} that share, {len(FITTING)} that just fit, {len(TAKEN)} of the examples, {len(REFUSED)} refused: {len(found)} differences")
+          f"{len(WAITING)} that wait, {len(GROUPS)} with groups, {len(INLINES)} with inline functions, {len(PARALLEL)} with parallel loops, {len(ASKING)} with calls and the like inside values, {len(WIDTHS) + len(PACKED) + len(shared)} with widths, {len(BROKEN) + len(FURTHER)} with broken lines, {len(BUILT_IN)} with min, max and abs, {len(SHARING)} that share, {len(FITTING)} that just fit, {len(TAKEN)} of the examples, {len(REFUSED)} refused: {len(found)} differences")
     return found or rare
 
 
