@@ -27,7 +27,7 @@ PROMISES = [
     ("rows of functions", ["source_rows::rows_follow_source", "source_rows::advances_follow_source"]),
     ("values of sources", ["source_value::texts_have_values", "source_value::texts_have_one_value", "source_value::value_of_source", "source_value::reply_of_source", "source_value::reply_line_of_source"]),
     ("the line of a source's job", ["arena_compile::job_line"]),
-    ("parameters that share numbers", ["source_reader::widths_keep_arguments"]),
+    ("parameters that share numbers, and `min`, `max` and `abs`", ["source_reader::widths_keep_arguments", "source_reader::built_ins_have_values"]),
     ("lines in", ["request_reader::LineReader", "request_reader::read_request"]),
     ("lines out", ["reply_writer::reply_line", "reply_writer::answer_line"]),
     ("the program's scripts", ["arena_script::script"]),

@@ -7,5 +7,8 @@ pub mod BodySteps
 pub mod WidthSteps
 pub mod Bits
 pub mod Taking
+pub mod TreeSteps
 pub mod Packing
 pub mod EachArgument
+pub mod BuiltInValues
+pub mod SizeValues

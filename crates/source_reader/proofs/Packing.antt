@@ -4,18 +4,17 @@ use Rattle.std.proofs.Common.{List, [], ◌∷◌, Option, Some, None, ◌⊎◌
 use Rattle.std.specs.Prelude.{slice_index_or}
 use Rattle.std.specs.Int.{int_wrapping_add, int_shl, w64}
 use Rattle.std.proofs.Math.Nat.{eq-zero-or-pos}
-use Rattle.source_language.specs.declared.syntax.Operator.{Operator}
 use Rattle.source_language.specs.declared.syntax.Operator.TheVariants as op
-use Rattle.source_language.specs.declared.syntax.Expr.{Expr}
-use Rattle.source_language.specs.declared.syntax.Expr.TheVariants as expr
-use Rattle.source_language.specs.Meaning.{shift_of, result_of, on_both, value_of}
+use Rattle.source_language.specs.Meaning.{shift_of, result_of, on_both}
 use Rattle.source_reader.specs.declared.layouts.Taken.{Taken}
 use Rattle.source_reader.specs.Calls.{ArgumentTrees, arguments_of, does_fit, no_arguments, with_argument}
-use Rattle.source_reader.specs.Folding.{two_of, constant_or}
+use Rattle.source_reader.specs.Folding.{two_of}
 use Rattle.source_reader.specs.Layouts.{bits_taken, has_room, nothing_taken, packed, packed_with, part_of, shifted, unpacked, with_all, with_one}
-use Rattle.source_reader.specs.Trees.{ExprTree, Constant, Variable, SlotTree, WidthTree, TwoTree, tree_of}
-use Rattle.source_reader.specs.Packed.{AllFit, AreNarrow, GivesEach, HaveValues, KeepsValues, have_room, packed_arguments, tree_value}
+use Rattle.source_reader.specs.Trees.{ExprTree, Constant}
+use Rattle.source_reader.specs.Packed.{AllFit, AreNarrow, GivesEach, HaveValues, KeepsValues, have_room, packed_arguments}
+use Rattle.source_reader.specs.TreeValues.{tree_value}
 use Rattle.source_reader.proofs.Bits.{not_bare}
+use Rattle.source_reader.proofs.TreeSteps.{two_value}
 use Rattle.source_reader.proofs.Taking.{Grown, Stayed, Grew, Holds, Bare, grown_after, grown_twice, held_after, joined, some_taken, taken_out}
 
 -- the values of the two numbers
@@ -129,34 +128,18 @@ module _ (slot slots : ℕ) (vars : List ℤ) where
         given_all (with_one t b) bs (with_number t b p v) vs one.held_first one.held_second w.1 more f.1 first second,
       )
 
--- of two trees the operator's result, whether it is computed here or later
 module _ (slot slots : ℕ) (vars : List ℤ) where
   abbrev val : ExprTree → Option ℤ
   val e = tree_value e slot slots vars
-
-  constant_value : (o : Operator) (x y : ℤ) (r : Option ℤ) → result_of o x y ≡ r → val (constant_or r (TwoTree o (Constant x) (Constant y))) ≡ result_of o x y
-  constant_value o x y (Some z) e = sym e
-  constant_value o x y None e = refl
-
-  two_value : (o : Operator) (a b : ExprTree) → val (two_of o a b) ≡ on_both (result_of o) (val a) (val b)
-  two_value o (Constant x) (Constant y) = constant_value o x y (result_of o x y) refl
-  two_value o (Constant x) (Variable j) = refl
-  two_value o (Constant x) SlotTree = refl
-  two_value o (Constant x) WidthTree = refl
-  two_value o (Constant x) (TwoTree p c d) = refl
-  two_value o (Variable i) b = refl
-  two_value o SlotTree b = refl
-  two_value o WidthTree b = refl
-  two_value o (TwoTree p c d) b = refl
 
   packed_value : (n b : ℕ) (before e : ExprTree) (x v : ℤ) → val before ≡ Some x → val e ≡ Some v → val (packed n b before e) ≡ Some (joined n b x v)
   packed_value n b before e x v was is = elim (eq-zero-or-pos n) [
     | inl none ↦ subst (λ m. val (packed m b before e) ≡ Some (joined m b x v)) (sym none) is
     | inr some ↦
         let shift : val (shifted before b) ≡ Some (int_shl w64 x (shift_of (pos b))) =
-        two_value op.ShiftLeft before (Constant (pos b)) ∙ ap (λ o. on_both (result_of op.ShiftLeft) o (Some (pos b))) was in
+        two_value slot slots vars op.ShiftLeft before (Constant (pos b)) ∙ ap (λ o. on_both (result_of op.ShiftLeft) o (Some (pos b))) was in
         ap (λ (c : Bool). val (if c then e else two_of op.Plus (shifted before b) e)) (not_bare n some)
-        ∙ two_value op.Plus (shifted before b) e ∙ ap (λ o. on_both (result_of op.Plus) o (val e)) shift
+        ∙ two_value slot slots vars op.Plus (shifted before b) e ∙ ap (λ o. on_both (result_of op.Plus) o (val e)) shift
         ∙ ap (λ o. on_both (result_of op.Plus) (Some (int_shl w64 x (shift_of (pos b)))) o) is
         ∙ sym (ap (λ (c : Bool). Some (if c then v else int_wrapping_add w64 (int_shl w64 x (shift_of (pos b))) v)) (not_bare n some))
   ]
@@ -196,12 +179,3 @@ widths_keep bs es vs slot slots vars w room f have =
       second_is = there.second;
       given = λ s n frame e g. given_all s n frame nothing_taken bs no_numbers vs (Bare refl) (Bare refl) w room f e g;
     }
-
-pub value_of_tree : (e : Expr) (slot slots : ℕ) (vars : List ℤ) → tree_value (tree_of e) slot slots vars ≡ value_of e slot slots vars
-value_of_tree (expr.Number n) slot slots vars = refl
-value_of_tree (expr.Variable x) slot slots vars = refl
-value_of_tree expr.Slot slot slots vars = refl
-value_of_tree expr.Width slot slots vars = refl
-value_of_tree (expr.Two' o p a q b) slot slots vars =
-    ap (λ x. on_both (result_of o) x (tree_value (tree_of b) slot slots vars)) (value_of_tree a slot slots vars)
-    ∙ ap (λ y. on_both (result_of o) (value_of a slot slots vars) y) (value_of_tree b slot slots vars)

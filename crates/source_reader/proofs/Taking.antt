@@ -13,7 +13,7 @@ use Rattle.source_reader.specs.Calls.{does_fit}
 use Rattle.source_reader.specs.Folding.{two_of, constant_or}
 use Rattle.source_reader.specs.Layouts.{has_room, bits_taken, packed, shifted, ones, without_low, part_of}
 use Rattle.source_reader.specs.Trees.{ExprTree, Constant, Variable, SlotTree, WidthTree, TwoTree}
-use Rattle.source_reader.specs.Packed.{tree_value}
+use Rattle.source_reader.specs.TreeValues.{tree_value}
 use Rattle.source_reader.proofs.Bits.{Fitting, fitting, not_bare, shift_is, shl_is, joined_is, joined_low, shr_is, ones_are, masked_is}
 
 -- What is known of a number, of which so many bits are taken: nothing yet, all of it by one parameter, or by some that share it.

@@ -37,4 +37,5 @@ pub mod Keys
 pub mod Items
 pub mod Places
 pub mod Source
+pub mod TreeValues
 pub mod Packed

@@ -1,7 +1,6 @@
 -- Arguments that share the numbers of a task, and what the body of their function takes out of these.
 use Rattle.std.specs.Prelude.{ℕ, ℤ, pos, ◌≡◌, ◌≤◌, ◌&&◌, ◌||◌, Bool, true, List, [], ◌∷◌, Option, Some, None, Result, Ok, slice_index_or}
 use Rattle.std.specs.List.{All, AllZip}
-use Rattle.source_language.specs.Meaning.{result_of, on_both}
 use Rattle.source_tokens.specs.declared.tokens.Token.{Token}
 use Rattle.source_reader.specs.declared.faults.Fault.{Fault}
 use Rattle.source_reader.specs.declared.layouts.Taken.{Taken}
@@ -9,15 +8,8 @@ use Rattle.source_reader.specs.Calls.{ArgumentTrees, argument_at, arguments_from
 use Rattle.source_reader.specs.Faults.{◌>>=◌}
 use Rattle.source_reader.specs.Layouts.{has_room, nothing_taken, unpacked, with_all, with_one}
 use Rattle.source_reader.specs.Names.{Scope}
-use Rattle.source_reader.specs.Trees.{ExprTree, Constant, Variable, SlotTree, WidthTree, TwoTree}
-
--- the value of a tree: that of the expression
-abbrev pub tree_value : ExprTree → (slot width : ℕ) → (vars : List ℤ) → Option ℤ
-tree_value (Constant n) slot width vars = Some n
-tree_value (Variable x) slot width vars = Some (slice_index_or vars x (pos 0))
-tree_value SlotTree slot width vars = Some (pos slot)
-tree_value WidthTree slot width vars = Some (pos width)
-tree_value (TwoTree op a b) slot width vars = on_both (result_of op) (tree_value a slot width vars) (tree_value b slot width vars)
+use Rattle.source_reader.specs.Trees.{ExprTree}
+use Rattle.source_reader.specs.TreeValues.{tree_value}
 
 -- the arguments for parameters of these widths, each as it is read
 abbrev pub each_argument : Scope → (widths : List ℕ) → (called ts : List Token) → Result (List ExprTree × List Token) Fault

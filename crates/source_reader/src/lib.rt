@@ -46,6 +46,6 @@ mod waits;
 mod widths;
 
 pub use faults::Wrong;
-pub use laws::widths_keep_arguments;
+pub use laws::{built_ins_have_values, widths_keep_arguments};
 pub use places::Place;
 pub use source::{SourceError, SourceFault, function_place, read_source};
