@@ -1,5 +1,5 @@
 -- What is done before a line: tasks that it waits for, and what gives a value inside its values, from left to right. Of what the line may skip, only questions are asked.
-use Rattle.std.specs.Prelude.{ℕ, ◌==◌, ◌&&◌, not, Bool, true, false, List, [], ◌∷◌, length, Option, Some, None, is_some, if◌then◌else◌}
+use Rattle.std.specs.Prelude.{ℕ, ◌==◌, ◌&&◌, not, Bool, true, false, List, [], ◌∷◌, drop, length, Option, Some, None, is_some, if◌then◌else◌}
 use Rattle.source_tokens.specs.declared.tokens.Sign.TheVariants as sign
 use Rattle.source_tokens.specs.declared.tokens.Kind.{Kind}
 use Rattle.source_tokens.specs.declared.tokens.Kind.TheVariants as kind
@@ -16,6 +16,7 @@ use Rattle.source_reader.specs.Names.{Scope, meaning_of, inline_of}
 use Rattle.source_reader.specs.Questions.{question_in}
 use Rattle.source_reader.specs.Tasks.{pending_task}
 use Rattle.source_reader.specs.Waits.{is_unread, task_at}
+use Rattle.source_reader.specs.Widths.{is_comma}
 
 abbrev pub ahead_if : Option Task → Ahead
 ahead_if (Some t) = ahead.Waits t
@@ -56,15 +57,16 @@ abbrev pub is_cell : Option Meaning → Bool
 is_cell (Some (meaning.Cell k)) = true
 is_cell m = false
 
--- Whether there is no wait before a line that begins so. The condition of a loop is computed again. A cell is read before what it is given.
-abbrev pub is_first : Scope → Kind → Bool
-is_first names kind.While = true
-is_first names (kind.Name x) = is_cell (meaning_of x names)
-is_first names k = false
+-- Whether there is no wait before a line that begins so. The condition of a loop is computed again. A cell is read before what it is given. A wait that gives a status, too, is the line.
+abbrev pub is_first : Scope → Kind → (rest : List Token) → Bool
+is_first names kind.While rest = true
+is_first names (kind.Name x) rest = is_cell (meaning_of x names)
+is_first names kind.Let rest = is_comma (drop 1 rest)
+is_first names k rest = false
 
 abbrev pub next_wait_of : Kind → Scope → (ts rest : List Token) → Option Task
 next_wait_of kind.Sync names ts rest = pending_task reach.Block names
-next_wait_of k names ts rest = if is_first names k then None else wait_or (ahead_by names k rest) (wait_in names (alone names ts) rest)
+next_wait_of k names ts rest = if is_first names k rest then None else wait_or (ahead_by names k rest) (wait_in names (alone names ts) rest)
 
 -- the task that is waited for before the statement at the front is read
 abbrev pub next_wait : Scope → List Token → Option Task
@@ -97,7 +99,7 @@ ask_behind a later = None
 -- In the condition of a loop there are only questions.
 abbrev pub next_ask_of : Kind → Scope → (ts rest : List Token) → Option (List Token)
 next_ask_of kind.While names ts rest = question_in names rest
-next_ask_of k names ts rest = if is_first names k then None else ask_behind (ahead_by names k rest) (ask_in names (alone names ts) rest)
+next_ask_of k names ts rest = if is_first names k rest then None else ask_behind (ahead_by names k rest) (ask_in names (alone names ts) rest)
 
 -- the giver that is asked before the statement at the front is read: its tokens, and those behind it
 abbrev pub next_ask : Scope → List Token → Option (List Token)

@@ -17,6 +17,8 @@ use Rattle.source_reader.specs.Trees.{StmtTree, SkipTree, CancelTree}
 use Rattle.source_reader.specs.Lines.{free_name}
 use Rattle.source_reader.specs.Calls.{run_at}
 use Rattle.source_reader.specs.Marks.{unexpected}
+use Rattle.source_reader.specs.Statuses.{group_awaited}
+use Rattle.source_reader.specs.Widths.{is_comma}
 
 abbrev pub if_group : Task → Option TaskGroup
 if_group t = if t.is_group then Some t.group else None
@@ -44,13 +46,17 @@ abbrev pub waited_group : Scope → List Token → Option TaskGroup
 waited_group names [] = None
 waited_group names (t ∷ ts) = waited_group_of t.kind names ts
 
+-- behind `let` and a name
+abbrev pub let_gathered : Scope → List Token → Option TaskGroup
+let_gathered names ts = if is_comma ts then group_awaited names (drop 1 (drop 1 (drop 1 ts))) else waited_group names (drop 1 ts)
+
 abbrev pub gathered_of : Kind → Scope → List Token → Option TaskGroup
 gathered_of kind.Wait names ts = waited_group names ts
-gathered_of kind.Let names ts = waited_group names (drop 1 (drop 1 (drop 1 ts)))
+gathered_of kind.Let names ts = let_gathered names (drop 1 (drop 1 ts))
 gathered_of (kind.Name x) names ts = waited_group names (drop 1 (drop 1 ts))
 gathered_of k names ts = None
 
--- the group that the line at the front waits for: `wait g`, `let x = wait g` or `x = wait g`
+-- the group that the line at the front waits for: `wait g`, `let x = wait g`, `x = wait g`, or `let x, s = wait g`, where it may be that of a task
 abbrev pub gathered : Scope → List Token → Option TaskGroup
 gathered names [] = None
 gathered names (t ∷ ts) = gathered_of t.kind names (t ∷ ts)

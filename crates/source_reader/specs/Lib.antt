@@ -18,6 +18,7 @@ pub mod Layouts
 pub mod Headers
 pub mod Calls
 pub mod Ranges
+pub mod Statuses
 pub mod Groups
 pub mod Cells
 pub mod Givers

@@ -7,9 +7,8 @@ use Rattle.source_reader.specs.declared.faults.Fault.{Fault}
 use Rattle.source_reader.specs.Trees.{ValueTree, StmtTree, Constant, NumberTree, TruthTree, SkipTree, ThenTree, AssignTree, IfTree, LoopTree, RepeatTree, BreakTree, ContinueTree, ReturnTree, MakeTree}
 use Rattle.source_reader.specs.Trees.{WaitTree, CancelTree, ReadTree, StoreTree}
 use Rattle.source_reader.specs.declared.faults.Wrong.TheVariants as wrong
-use Rattle.source_reader.specs.declared.names.Meaning.{Meaning}
 use Rattle.source_reader.specs.Faults.{◌>>=◌, fault_at}
-use Rattle.source_reader.specs.Names.{Scope, meaning_of}
+use Rattle.source_reader.specs.Names.{Scope, is_taken}
 use Rattle.source_reader.specs.Marks.{unexpected}
 
 -- A comparison is 1 or 0.
@@ -86,13 +85,9 @@ abbrev pub name_at : List Token → Result ℕ Fault
 name_at [] = unexpected []
 name_at (t ∷ ts) = name_at_of t.kind (t ∷ ts)
 
-abbrev pub unless_known : Option Meaning → ℕ → List Token → Result ℕ Fault
-unless_known (Some m) x ts = Err (fault_at ts wrong.KnownName)
-unless_known None x ts = Ok x
-
--- a name at the front that stands for nothing yet
+-- a name at the front that can be declared
 abbrev pub free_name : Scope → List Token → Result ℕ Fault
-free_name names ts = name_at ts >>= λ x. unless_known (meaning_of x names) x ts
+free_name names ts = name_at ts >>= λ x. if is_taken x names then Err (fault_at ts wrong.KnownName) else Ok x
 
 abbrev pub is_line_end : Kind → Bool
 is_line_end kind.LineEnd = true

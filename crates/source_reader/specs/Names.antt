@@ -1,5 +1,5 @@
 -- What a place sees: names with their meanings, the last one first, and the functions of the source.
-use Rattle.std.specs.Prelude.{ℕ, Bool, true, false, List, map, Option, Some, None, Result, Ok, Err, ◌+◌, ◌==◌, nat_lt, if◌then◌else◌}
+use Rattle.std.specs.Prelude.{ℕ, Bool, true, false, List, map, Option, Some, None, Result, Ok, Err, ◌+◌, ◌==◌, ◌||◌, nat_lt, if◌then◌else◌}
 use Rattle.std.specs.Option.{option_map}
 use Rattle.source_tokens.specs.declared.tokens.Gathers.{Gathers}
 use Rattle.source_tokens.specs.declared.tokens.Token.{Token}
@@ -66,6 +66,23 @@ meaning_of x (Waited g others) = option_map (awaited g) (meaning_of x others)
 meaning_of x (Inner is_loop others) = option_map outer (meaning_of x others)
 meaning_of x (Gathering g others) = meaning_of x others
 meaning_of x (Asked left b v others) = meaning_of x others
+
+-- whether a name is that of a constant, a cell or an inline function
+abbrev pub is_item : Option Meaning → Bool
+is_item (Some (meaning.Constant z)) = true
+is_item (Some (meaning.Cell k)) = true
+is_item (Some meaning.Inline) = true
+is_item m = false
+
+-- Whether a name can't be declared: the innermost block has it, or what no block hides.
+abbrev pub is_taken : ℕ → Scope → Bool
+is_taken x (Functions hs) = false
+is_taken x (WithName y m others) = y == x || is_taken x others
+is_taken x (WithInline y f others) = y == x || is_taken x others
+is_taken x (Waited g others) = is_taken x others
+is_taken x (Inner is_loop others) = is_item (meaning_of x others)
+is_taken x (Gathering g others) = is_taken x others
+is_taken x (Asked left b v others) = is_taken x others
 
 -- the inline function of that name
 abbrev pub inline_of : ℕ → Scope → Option InlineTree

@@ -13,7 +13,7 @@ use Rattle.source_reader.specs.Constants.{constant_in}
 use Rattle.source_reader.specs.Faults.{◌>>=◌, fault_at}
 use Rattle.source_reader.specs.Lines.{after_begin, after_in, after_range, free_name, is_end}
 use Rattle.source_reader.specs.Marks.{unexpected}
-use Rattle.source_reader.specs.Names.{Scope}
+use Rattle.source_reader.specs.Names.{Scope, Inner}
 use Rattle.source_reader.specs.Trees.{StmtTree}
 use Rattle.source_reader.specs.Values.{whole_value}
 
@@ -56,9 +56,10 @@ ends_there (Some ts) = Ok ts
 ends_there None = unexpected []
 
 -- Behind the word of a parallel loop: a call of its function with both ends, whose value goes to the variable. The function is known by the place of the word; the block is read with it.
+-- The index may hide a name around the loop.
 abbrev pub parallel_at : Scope → (x : ℕ) → List Token → Result (StmtTree × List Token) Fault
 parallel_at names x ts = do
-  i ← free_name names ts
+  i ← free_name (Inner true names) ts
   call ← if_group_left (run.Call (Some x)) names ts
   from ← after_in (drop 1 ts)
   low ← argument_at names from

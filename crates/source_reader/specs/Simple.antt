@@ -1,5 +1,5 @@
 -- Statements without blocks.
-use Rattle.std.specs.Prelude.{ℕ, ℤ, List, [], ◌∷◌, drop, Option, Some, None, is_none, Result, Ok, Err, if◌then◌else◌}
+use Rattle.std.specs.Prelude.{ℕ, ℤ, true, List, [], ◌∷◌, drop, Option, Some, None, is_none, Result, Ok, Err, if◌then◌else◌}
 use Rattle.source_tokens.specs.declared.tokens.Kind.{Kind}
 use Rattle.source_tokens.specs.declared.tokens.Kind.TheVariants as kind
 use Rattle.source_tokens.specs.declared.tokens.Token.{Token}
@@ -11,7 +11,7 @@ use Rattle.source_reader.specs.declared.names.Meaning.{Meaning}
 use Rattle.source_reader.specs.declared.names.Meaning.TheVariants as meaning
 use Rattle.source_reader.specs.declared.simple.Count.{Count}
 use Rattle.source_reader.specs.declared.tasks.Reach.TheVariants as reach
-use Rattle.source_reader.specs.Names.{Scope, meaning_of, new_number, number_behind}
+use Rattle.source_reader.specs.Names.{Scope, Inner, meaning_of, new_number, number_behind}
 use Rattle.source_reader.specs.declared.names.TaskGroup.{TaskGroup}
 use Rattle.source_reader.specs.Tasks.{group_number, pending_task}
 use Rattle.source_reader.specs.Waits.{awaited_at}
@@ -26,6 +26,8 @@ use Rattle.source_reader.specs.Cells.{store_at}
 use Rattle.source_reader.specs.Givers.{giver_at, given_by}
 use Rattle.source_reader.specs.Lines.{assigned, after_set, after_in, after_range, free_name}
 use Rattle.source_reader.specs.Marks.{unexpected}
+use Rattle.source_reader.specs.Statuses.{status_at}
+use Rattle.source_reader.specs.Widths.{is_comma}
 
 abbrev pub condition_at : Scope → List Token → Result (TestTree × List Token) Fault
 condition_at names ts = do
@@ -36,18 +38,9 @@ condition_at names ts = do
 abbrev pub ReadStmt : Type 0
 ReadStmt = Result (StmtTree × List Token) Fault
 
-abbrev pub new_unless : Option Meaning → Scope → List Token → Result ℕ Fault
-new_unless (Some m) names ts = Err (fault_at ts wrong.KnownName)
-new_unless None names ts = new_number names ts
-
-abbrev pub new_name_of : Kind → Scope → List Token → Result ℕ Fault
-new_name_of (kind.Name x) names ts = new_unless (meaning_of x names) names ts
-new_name_of k names ts = unexpected ts
-
--- the number of a new variable with the name at the front, if no other has it
+-- the number of a new variable with the name at the front
 abbrev pub new_name : Scope → List Token → Result ℕ Fault
-new_name names [] = unexpected []
-new_name names (t ∷ ts) = new_name_of t.kind names (t ∷ ts)
+new_name names ts = free_name names ts >>= λ x. new_number names ts
 
 abbrev pub set_at : Scope → ℕ → List Token → ReadStmt
 set_at names x rest = do
@@ -66,12 +59,15 @@ given_at names x ts = given_from (giver_at names ts) names x ts
 abbrev pub declared_at : Scope → ℕ → (name ts : List Token) → ReadStmt
 declared_at names n name ts = if is_spawn ts then spawn_at names name (drop 1 ts) else given_at names n ts
 
--- behind `let`
-abbrev pub let_at : Scope → List Token → ReadStmt
-let_at names ts = do
+abbrev pub one_declared : Scope → List Token → ReadStmt
+one_declared names ts = do
   n ← new_name names ts
   rest ← after_set (drop 1 ts)
   declared_at names n ts rest
+
+-- behind `let`
+abbrev pub let_at : Scope → List Token → ReadStmt
+let_at names ts = if is_comma (drop 1 ts) then status_at names ts else one_declared names ts
 
 abbrev pub updated_of : Kind → Scope → ℕ → List Token → List Token → ReadStmt
 updated_of kind.Set names x rest ts = given_at names x rest
@@ -132,10 +128,10 @@ pub record CountTree : Type 0 where
 abbrev pub view_count : Count → CountTree
 view_count c = record { name = c.name; index = c.index; end = c.end; low = value_tree_of c.low; high = value_tree_of c.high; by = c.by }
 
--- Behind `for`: neither value sees the index.
+-- Behind `for`: neither value sees the index, which may hide a name of the block around the loop.
 abbrev pub count_at : Scope → List Token → Result (CountTree × List Token) Fault
 count_at names ts = do
-  x ← free_name names ts
+  x ← free_name (Inner true names) ts
   i ← new_number names ts
   h ← number_behind i ts
   from ← after_in (drop 1 ts)

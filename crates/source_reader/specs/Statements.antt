@@ -24,6 +24,7 @@ use Rattle.source_reader.specs.Simple.{ReadStmt, given_at, condition_at, count_a
 use Rattle.source_reader.specs.Counting.{counting_loop}
 use Rattle.source_reader.specs.Giving.{group_given, behind_group, give_at, return_in}
 use Rattle.source_reader.specs.Marks.{unexpected}
+use Rattle.source_reader.specs.Statuses.{status_name}
 
 -- What is read: `{ .. }`; what follows `{`, where what comes may never be reached; a statement; an `if` behind `else`; or what may follow the block of an
 -- `if`. Each says whether there is a loop around it.
@@ -55,13 +56,19 @@ declared_meaning names n ts =
     if is_group ts then (free_group names ts >>= λ g. Ok (meaning.Task (record { variable = n; group = g; is_group = true })))
     else let_meaning names n (drop 1 (drop 1 (drop 1 ts)))
 
+abbrev pub declared_in : Scope → List Token → Result Meaning Fault
+declared_in names ts = new_number names ts >>= λ n. declared_meaning names n ts
+
+abbrev pub with_status : Option ℕ → Scope → List Token → Result Scope Fault
+with_status None names ts = Ok names
+with_status (Some y) names ts = new_number names ts >>= λ n. Ok (WithName y (meaning.Variable n) names)
+
 -- the names behind a statement, which begins with the first of the tokens, and those it declares
 abbrev pub with_name : Option ℕ → Scope → List Token → Result Scope Fault
 with_name None names ts = Ok names
 with_name (Some x) names ts = do
-  n ← new_number names ts
-  m ← declared_meaning names n ts
-  Ok (WithName x m names)
+  m ← declared_in names ts
+  with_status (status_name (drop 1 ts)) (WithName x m names) ts
 
 abbrev pub line_and_rest : Reader → (names behind : Scope) → Bool → List Token → ReadStmt
 line_and_rest next names behind in_loop ts = do

@@ -6,10 +6,12 @@ ghost use Rattle.source_reader.specs.Names.{names_of};
 
 use crate::extents::alone;
 use crate::givers::giver_at;
+use crate::marks::after_first;
 use crate::names::{Meaning, Names, Task, inline_of, meaning_of};
 use crate::questions::question_in;
 use crate::tasks::{Reach, pending_task};
 use crate::waits::{is_unread, task_at};
+use crate::widths::is_comma;
 use source_tokens::{Kind, Sign, Token};
 
 /// What a token means for what is done before its line.
@@ -96,12 +98,13 @@ fn is_cell(meaning: Option<Meaning>) -> bool
 }
 
 /// Whether there is no wait before a line that begins so.
-fn is_first(names: &Names, kind: Kind) -> bool
-    ensures { result ≡ is_first (names_of names.now) kind }
+fn is_first(names: &Names, kind: Kind, rest: &[Token]) -> bool
+    ensures { result ≡ is_first (names_of names.now) kind rest.now }
 {
     match kind {
         Kind::While => true,
         Kind::Name(name) => is_cell(meaning_of(name, names)),
+        Kind::Let => is_comma(after_first(rest)),
         _ => false,
     }
 }
@@ -114,7 +117,7 @@ pub(crate) fn next_wait(names: &Names, tokens: &[Token]) -> Option<Task>
     match first.kind {
         Kind::Sync => pending_task(Reach::Block, names),
         kind => {
-            if is_first(names, kind) {
+            if is_first(names, kind, rest) {
                 return None;
             }
             match ahead_by(names, kind, rest) {
@@ -168,7 +171,7 @@ pub(crate) fn next_ask<'a>(names: &Names, tokens: &'a [Token]) -> Option<&'a [To
     match first.kind {
         Kind::While => question_in(names, rest),
         kind => {
-            if is_first(names, kind) {
+            if is_first(names, kind, rest) {
                 return None;
             }
             match ahead_by(names, kind, rest) {

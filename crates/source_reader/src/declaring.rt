@@ -2,12 +2,12 @@
 ghost use Rattle.std.specs.Prelude.{◌≡◌, drop};
 ghost use Rattle.source_reader.specs.Faults.{Gives};
 ghost use Rattle.source_reader.specs.Names.{names_of};
-ghost use Rattle.source_reader.specs.Statements.{is_group, let_meaning, declared_meaning};
+ghost use Rattle.source_reader.specs.Statements.{is_group, let_meaning, declared_meaning, declared_in};
 
 use crate::calls::is_spawn;
 use crate::faults::ReadError;
 use crate::marks::after_first;
-use crate::names::{Meaning, Names, Task};
+use crate::names::{Meaning, Names, Task, new_number};
 use crate::tasks::free_group;
 use source_tokens::{Kind, Token};
 
@@ -45,12 +45,8 @@ fn is_group(tokens: &[Token]) -> bool
     }
 }
 
-/// What the name stands for that the statement at the front declares.
-pub(crate) fn declared_meaning(
-    names: &Names,
-    number: u8,
-    tokens: &[Token],
-) -> Result<Meaning, ReadError>
+/// What the name that the statement at the front declares stands for, with the variable of that number.
+fn declared_meaning(names: &Names, number: u8, tokens: &[Token]) -> Result<Meaning, ReadError>
     ensures { Gives (λ m. m) result (declared_meaning (names_of names.now) number tokens.now) }
 {
     if !is_group(tokens) {
@@ -62,4 +58,12 @@ pub(crate) fn declared_meaning(
         group,
         is_group: true,
     }))
+}
+
+/// What the name that the statement at the front declares stands for.
+pub(crate) fn declared_in(names: &Names, tokens: &[Token]) -> Result<Meaning, ReadError>
+    ensures { Gives (λ m. m) result (declared_in (names_of names.now) tokens.now) }
+{
+    let number = new_number(names, tokens)?;
+    declared_meaning(names, number, tokens)
 }

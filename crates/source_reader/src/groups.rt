@@ -1,7 +1,7 @@
 // Groups that have names: any number of tasks, which are waited for at once.
 ghost use Rattle.std.specs.Prelude.{◌≡◌};
 ghost use Rattle.source_reader.specs.Faults.{Gives};
-ghost use Rattle.source_reader.specs.Groups.{if_group, own_group, own_group_at, waited_group, gathered, into_group, open_group, open_task, open_group_at, open_task_at, after_colon, group_at, into_at, cancel_at};
+ghost use Rattle.source_reader.specs.Groups.{if_group, own_group, own_group_at, waited_group, let_gathered, gathered, into_group, open_group, open_task, open_group_at, open_task_at, after_colon, group_at, into_at, cancel_at};
 ghost use Rattle.source_reader.specs.Names.{names_of};
 ghost use Rattle.source_reader.specs.Trees.{stmt_tree_of};
 
@@ -10,7 +10,9 @@ use crate::faults::{ReadError, Wrong, fault_at};
 use crate::lines::free_name;
 use crate::marks::after_first;
 use crate::names::{Meaning, Names, Task, TaskGroup, meaning_of};
+use crate::statuses::group_awaited;
 use crate::tasks::{free_group, group_of};
+use crate::widths::is_comma;
 use source_language::Stmt;
 use source_tokens::{Kind, Token};
 use std::alloc::Global;
@@ -57,14 +59,26 @@ fn waited_group(names: &Names, tokens: &[Token]) -> Option<TaskGroup>
     }
 }
 
-/// The group that the line at the front waits for.
+/// The group that is waited for, behind `let` and a name.
+fn let_gathered(names: &Names, tokens: &[Token]) -> Option<TaskGroup>
+    ensures { result ≡ let_gathered (names_of names.now) tokens.now }
+{
+    let second = after_first(tokens);
+    if is_comma(tokens) {
+        group_awaited(names, after_first(after_first(second)))
+    } else {
+        waited_group(names, second)
+    }
+}
+
+/// The group that the line at the front waits for. Where that gives a status, it may be that of a task.
 pub(crate) fn gathered(names: &Names, tokens: &[Token]) -> Option<TaskGroup>
     ensures { result ≡ gathered (names_of names.now) tokens.now }
 {
     let (first, _) = tokens.split_first()?;
     match first.kind {
         Kind::Wait => waited_group(names, tokens),
-        Kind::Let => waited_group(names, after_first(after_first(after_first(tokens)))),
+        Kind::Let => let_gathered(names, after_first(after_first(tokens))),
         Kind::Name(_) => waited_group(names, after_first(after_first(tokens))),
         _ => None,
     }

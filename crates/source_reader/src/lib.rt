@@ -38,6 +38,7 @@ mod returns;
 mod simple;
 mod source;
 mod statements;
+mod statuses;
 mod tasks;
 mod trees;
 mod truths;

@@ -7,7 +7,7 @@ ghost use Rattle.source_reader.specs.Marks.{is_close};
 ghost use Rattle.source_reader.specs.Trees.{stmt_tree_of};
 
 use crate::faults::{ReadError, Wrong, fault_at};
-use crate::names::{Names, meaning_of};
+use crate::names::{Names, is_taken};
 use source_language::Stmt;
 use source_tokens::{Kind, Token};
 
@@ -89,14 +89,15 @@ pub(crate) fn name_at(tokens: &[Token]) -> Result<usize, ReadError>
     }
 }
 
-/// A name at the front that stands for nothing yet.
+/// A name at the front that can be declared.
 pub(crate) fn free_name(names: &Names, tokens: &[Token]) -> Result<usize, ReadError>
     ensures { Gives (λ n. n) result (free_name (names_of names.now) tokens.now) }
 {
     let name = name_at(tokens)?;
-    match meaning_of(name, names) {
-        Some(_) => Err(fault_at(tokens, Wrong::KnownName)),
-        None => Ok(name),
+    if is_taken(name, names) {
+        Err(fault_at(tokens, Wrong::KnownName))
+    } else {
+        Ok(name)
     }
 }
 
@@ -179,7 +180,7 @@ pub(crate) fn after_end(tokens: &[Token]) -> Option<&[Token]>
     }
 }
 
-fn name_in(kind: Kind) -> Option<usize>
+pub(crate) fn name_in(kind: Kind) -> Option<usize>
     ensures { result ≡ name_in kind }
 {
     match kind {

@@ -1,12 +1,22 @@
-// Loops that count.
+// Loops that count, and what leaves a loop.
 ghost use Rattle.std.specs.Prelude.{◌≡◌, IfOk};
+ghost use Rattle.source_reader.specs.declared.tasks.Reach.TheVariants as reach;
+ghost use Rattle.source_reader.specs.Faults.{Gives};
+ghost use Rattle.source_reader.specs.Lines.{if_in_loop};
+ghost use Rattle.source_reader.specs.Names.{names_of};
+ghost use Rattle.source_reader.specs.Tasks.{leaving};
 ghost use Rattle.source_reader.specs.Trees.{tree_of, test_tree_of, stmt_tree_of, value_tree_of};
 ghost use Rattle.source_reader.specs.Counting.{before_end, to_end, is_behind, is_further, advanced, next_number, turns, counting_loop};
 
+use crate::faults::ReadError;
 use crate::folding::two;
 use crate::joining::Value;
+use crate::lines::if_in_loop;
+use crate::names::Names;
+use crate::tasks::{Reach, leaving};
 use crate::trees::{assigned, choice, then};
 use source_language::{Expr, Operator, Stmt, Test};
+use source_tokens::Token;
 use std::alloc::{AllocError, Global};
 
 /// Whether the end is not reached.
@@ -118,4 +128,20 @@ pub(crate) fn counting_loop(
     let turns = turns(alloc, index, end, by, body)?;
     let last = then(alloc, assigned(alloc, end, high)?, turns)?;
     then(alloc, assigned(alloc, index, low)?, last)
+}
+
+/// `break` or `continue`, which is the first of the tokens.
+pub(crate) fn loop_left<'a>(
+    alloc: Global,
+    names: &Names,
+    in_loop: bool,
+    s: Stmt,
+    rest: &'a [Token],
+    tokens: &[Token],
+) -> Result<(Stmt, &'a [Token]), ReadError>
+    ensures { Gives (λ x. (stmt_tree_of x.0, x.1.now)) result
+        (if_in_loop in_loop (leaving reach.Loop (names_of names.now) (stmt_tree_of s)) rest.entry.now tokens.now) }
+{
+    let left = leaving(alloc, Reach::Loop, names, s)?;
+    if_in_loop(in_loop, left, rest, tokens)
 }

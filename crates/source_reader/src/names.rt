@@ -3,7 +3,7 @@ ghost use Rattle.std.specs.Prelude.{◌≡◌};
 ghost use Rattle.std.specs.Option.{option_map};
 ghost use Rattle.source_reader.specs.Faults.{Gives};
 ghost use Rattle.source_reader.specs.Trees.{inline_tree_of};
-ghost use Rattle.source_reader.specs.Names.{names_of, is_same_group, behind_wait, awaited, outer, meaning_of, inline_of, asked_in, number_after, number_behind, number_past, number_next, new_number};
+ghost use Rattle.source_reader.specs.Names.{names_of, is_same_group, behind_wait, awaited, outer, meaning_of, is_item, is_taken, inline_of, asked_in, number_after, number_behind, number_past, number_next, new_number};
 
 use crate::faults::{ReadError, Wrong, fault_at};
 use crate::halving::OTHER;
@@ -149,6 +149,33 @@ pub(crate) fn meaning_of(name: usize, names: &Names) -> Option<Meaning>
         },
         Names::Gathering(_, others) => meaning_of(name, others),
         Names::Asked(_, _, _, others) => meaning_of(name, others),
+    }
+}
+
+/// Whether a name is that of a constant, a cell or an inline function.
+fn is_item(meaning: Option<Meaning>) -> bool
+    ensures { result ≡ is_item meaning }
+{
+    match meaning {
+        Some(Meaning::Constant(_)) => true,
+        Some(Meaning::Cell(_)) => true,
+        Some(Meaning::Inline) => true,
+        _ => false,
+    }
+}
+
+/// Whether a name can't be declared: the innermost block has it, or what no block hides.
+pub(crate) fn is_taken(name: usize, names: &Names) -> bool
+    ensures { result ≡ is_taken name (names_of names.now) }
+{
+    match names {
+        Names::Functions(_) => false,
+        Names::Name(first, _, others) => *first == name || is_taken(name, others),
+        Names::Inline(first, _, others) => *first == name || is_taken(name, others),
+        Names::Waited(_, others) => is_taken(name, others),
+        Names::Inner(_, others) => is_item(meaning_of(name, others)),
+        Names::Gathering(_, others) => is_taken(name, others),
+        Names::Asked(_, _, _, others) => is_taken(name, others),
     }
 }
 

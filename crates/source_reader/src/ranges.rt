@@ -129,7 +129,7 @@ pub(crate) fn parallel_at<'a>(
     ensures { Gives (λ x. (stmt_tree_of x.0, x.1.now)) result
         (parallel_at (names_of names.now) number tokens.entry.now) }
 {
-    let _index = free_name(names, tokens)?;
+    let _index = free_name(&Names::Inner(true, &*names), tokens)?;
     let call = if_group_left(Run::Call(Some(number)), names, tokens)?;
     let from = after_in(after_first(tokens))?;
     let (first, rest) = argument_at(alloc, names, from)?;

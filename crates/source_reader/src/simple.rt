@@ -15,10 +15,12 @@ use crate::joining::{Value, arithmetic, test_in};
 use crate::lines::{after_in, after_range, after_set, free_name};
 use crate::marks::after_first;
 use crate::names::{Meaning, Names, meaning_of, new_number, number_behind};
+use crate::statuses::status_at;
 use crate::tasks::{Reach, group_of, pending_task};
 use crate::trees::assigned;
 use crate::values::whole_value;
 use crate::waits::awaited_at;
+use crate::widths::is_comma;
 use source_language::{Expr, Stmt, Test};
 use source_tokens::{Kind, Token};
 use std::alloc::Global;
@@ -36,20 +38,12 @@ pub(crate) fn condition_at<'a>(
     Ok((test_in(value), rest))
 }
 
-/// The number of a new variable with the name at the front, if no other has it.
+/// The number of a new variable with the name at the front.
 pub(crate) fn new_name(names: &Names, tokens: &[Token]) -> Result<u8, ReadError>
     ensures { Gives (λ n. n) result (new_name (names_of names.now) tokens.now) }
 {
-    match tokens.split_first() {
-        Some((first, _)) => match first.kind {
-            Kind::Name(name) => match meaning_of(name, names) {
-                Some(_) => Err(fault_at(tokens, Wrong::KnownName)),
-                None => new_number(names, tokens),
-            },
-            _ => Err(fault_at(tokens, Wrong::Unexpected)),
-        },
-        None => Err(fault_at(tokens, Wrong::Unexpected)),
-    }
+    let _name = free_name(names, tokens)?;
+    new_number(names, tokens)
 }
 
 /// What is given to a variable, behind `=`.
@@ -69,7 +63,7 @@ pub(crate) fn given_at<'a>(
     Ok((assigned(alloc, number, value)?, after))
 }
 
-/// `let x = v`, or `let a = spawn f(v, w)`, behind `let`.
+/// `let x = v`, `let a = spawn f(v, w)` or `let x, s = wait g`, behind `let`.
 pub(crate) fn let_at<'a>(
     alloc: Global,
     names: &Names,
@@ -78,6 +72,9 @@ pub(crate) fn let_at<'a>(
     ensures { Gives (λ x. (stmt_tree_of x.0, x.1.now)) result
         (let_at (names_of names.now) tokens.entry.now) }
 {
+    if is_comma(after_first(tokens)) {
+        return status_at(alloc, names, tokens);
+    }
     let number = new_name(names, tokens)?;
     let rest = after_set(after_first(tokens))?;
     declared_at(alloc, names, number, tokens, rest)
@@ -231,7 +228,7 @@ pub(crate) fn count_at<'a>(
     ensures { Gives (λ x. (view_count x.0, x.1.now)) result
         (count_at (names_of names.now) tokens.entry.now) }
 {
-    let name = free_name(names, tokens)?;
+    let name = free_name(&Names::Inner(true, &*names), tokens)?;
     let index = new_number(names, tokens)?;
     let end = number_behind(index, tokens)?;
     let from = after_in(after_first(tokens))?;

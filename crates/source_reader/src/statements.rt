@@ -7,19 +7,21 @@ ghost use Rattle.source_reader.specs.Statements.{ask_and_rest, line_and_rest, fo
 
 use crate::ahead::{next_ask, next_wait};
 use crate::calls::{Run, run_at};
-use crate::declaring::declared_meaning;
+use crate::declaring::declared_in;
 use crate::faults::{ReadError, Wrong, fault_at};
 use crate::givers::giver_at;
 use crate::giving::{give_at, group_given, return_in};
 use crate::groups::{cancel_at, gathered, group_at, into_at};
-use crate::lines::{after_begin, after_end, after_line_ends, ended, if_in_loop, is_if, let_name};
-use crate::loops::counting_loop;
+use crate::lines::{after_begin, after_end, after_line_ends, ended, is_if, let_name};
+use crate::loops::{counting_loop, loop_left};
+use crate::marks::after_first;
 use crate::names::{Meaning, Names, new_number};
 use crate::questions::asked_again;
 use crate::simple::{
     Count, assigned_at, condition_at, count_at, given_at, let_at, region_at, sync_at, wait_at,
 };
-use crate::tasks::{Reach, block_end, leaving, waited};
+use crate::statuses::status_name;
+use crate::tasks::{block_end, waited};
 use crate::trees::{choice, leaves, looped, then};
 use source_language::Stmt;
 use source_tokens::{Kind, Token};
@@ -141,10 +143,15 @@ fn lines_at<'a>(
             Ok((then(alloc, first, others)?, after))
         }
         Some(name) => {
-            let number = new_number(behind, tokens)?;
-            let meaning = declared_meaning(behind, number, tokens)?;
+            let meaning = declared_in(behind, tokens)?;
             let inner = Names::Name(name, meaning, &*behind);
-            let (others, after) = rest_at(alloc, &inner, in_loop, left, fuel, rest)?;
+            let Some(status) = status_name(after_first(tokens)) else {
+                let (others, after) = rest_at(alloc, &inner, in_loop, left, fuel, rest)?;
+                return Ok((then(alloc, first, others)?, after));
+            };
+            let second = new_number(&inner, tokens)?;
+            let both = Names::Name(status, Meaning::Variable(second), &inner);
+            let (others, after) = rest_at(alloc, &both, in_loop, left, fuel, rest)?;
             Ok((then(alloc, first, others)?, after))
         }
     }
@@ -182,14 +189,8 @@ fn line_at<'a>(
         Kind::Spawn => into_at(alloc, names, rest),
         Kind::Cancel => cancel_at(names, rest),
         Kind::Sync => sync_at(names, tokens, rest),
-        Kind::Break => {
-            let s = leaving(alloc, Reach::Loop, names, Stmt::Break(0))?;
-            if_in_loop(in_loop, s, rest, tokens)
-        }
-        Kind::Continue => {
-            let s = leaving(alloc, Reach::Loop, names, Stmt::Continue(0))?;
-            if_in_loop(in_loop, s, rest, tokens)
-        }
+        Kind::Break => loop_left(alloc, names, in_loop, Stmt::Break(0), rest, tokens),
+        Kind::Continue => loop_left(alloc, names, in_loop, Stmt::Continue(0), rest, tokens),
         Kind::While => {
             let (condition, after) = condition_at(alloc, names, rest)?;
             let inner = Names::Inner(true, &*names);

@@ -19,7 +19,7 @@ fn is_colon(kind: Kind) -> bool
 }
 
 /// Whether there is a `,` at the front.
-fn is_comma(tokens: &[Token]) -> bool
+pub(crate) fn is_comma(tokens: &[Token]) -> bool
     ensures { result ≡ is_comma tokens.now }
 {
     match tokens.split_first() {
