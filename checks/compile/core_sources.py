@@ -50,6 +50,8 @@ class Sources:
     inlines: list[Inline] = field(default_factory=list)
     may_divide: bool = True
     may_ask: bool = False
+    hidable: list[str] = field(default_factory=list)
+    """The names of the blocks around the innermost one that it may declare again."""
     parallel_loops: int = 0
     in_parallel: bool = False
     """How many parallel loops there are so far, and whether the body of one is drawn."""
@@ -120,6 +122,7 @@ class Sources:
     def block(self, indent: int, depth: int, in_loop: bool) -> str:
         """The lines of a block, without its braces. No statement in it but the last one leaves."""
         alive, around, groups, outer_groups = len(self.names), self.pending, self.groups, self.outer_groups
+        before, self.hidable = self.hidable, self.names[:] if indent > 1 else []
         self.pending, self.further_out = [], self.further_out + len(around) + len(groups)
         self.groups, self.outer_groups = [], outer_groups + groups
         lines = [self.statement(indent, depth, in_loop) for _ in range(self.draws.randint(1, 3))]
@@ -131,6 +134,7 @@ class Sources:
             lines += [f"{'    ' * indent}wait {it}\n" for it in self.pending + self.groups]
         self.pending, self.further_out = around, self.further_out - len(around) - len(groups)
         self.groups, self.outer_groups = groups, outer_groups
+        self.hidable = before
         del self.names[alive:]
         return "".join(lines)
 
@@ -184,12 +188,12 @@ class Sources:
     def parallel(self) -> str:
         """A parallel loop over a few numbers. Its body sees no variable of the function around it, and uses no cell: whose task it is
         is up to the schedule."""
-        kept = {name: getattr(self, name) for name in ("names", "pending", "groups", "outer_groups", "further_out", "cells")}
+        kept = {name: getattr(self, name) for name in ("names", "hidable", "pending", "groups", "outer_groups", "further_out", "cells")}
         self.count, self.parallel_loops, self.in_parallel = self.count + 2, self.parallel_loops + 1, True
         index, copy = f"i{self.count - 1}", f"v{self.count}"
         ends = f"{self.draws.randint(-2, 2)}..{self.draws.choice([str(self.draws.randint(-1, 6)), *(f'{it} % 7' for it in self.names[:1])])}"
         head = f"{self.draws.choice(('psum', 'pmin', 'pmax'))} {index} in {ends}{self.draws.choice(('', ' grain 1', ' grain 2'))}"
-        self.names, self.pending, self.groups, self.outer_groups, self.further_out, self.cells = [copy], [], [], [], 0, []
+        self.names, self.hidable, self.pending, self.groups, self.outer_groups, self.further_out, self.cells = [copy], [], [], [], [], 0, []
         lines = "".join(self.statement(1, 1, in_loop=False) for _ in range(self.draws.randint(1, 3)))
         waits = "".join(f"    wait {it}\n" for it in self.pending + self.groups)
         last = waits if self.draws.random() < 0.2 else f"    give {self.returned(1)}\n"
@@ -214,7 +218,9 @@ class Sources:
     def gather(self, room: str) -> str:
         """A wait for a group."""
         group = self.groups.pop(self.draws.randrange(len(self.groups)))
-        kind = self.draws.choice(("wait", "let", "set"))
+        kind = self.draws.choice(("wait", "let", "set", "both"))
+        if kind == "both" and len(self.names) < 4:
+            return self.with_status(room, group)
         if kind == "set" and self.names:
             return f"{room}{self.draws.choice(self.names)} = wait {group}\n"
         return self.declared(room, f"wait {group}") if kind == "let" else f"{room}wait {group}\n"
@@ -229,7 +235,9 @@ class Sources:
         value = self.draws.choice((f"wait {task}", f"{self.value(1)} {self.draws.choice(ARITHMETIC)} wait {task}", f"(wait {task}) % 7 + {task}"))
         given = self.draws.choice(self.names) if self.names else ""
         self.names.append(task)
-        kind = self.draws.choice(("wait", "let", "set", "if"))
+        kind = self.draws.choice(("wait", "let", "set", "if", "both"))
+        if kind == "both" and len(self.names) < 4:
+            return self.with_status(room, task)
         if kind == "set" and given:
             return f"{room}{given} = {value}\n"
         if kind == "if":
@@ -238,9 +246,22 @@ class Sources:
 
     def declared(self, room: str, value: str) -> str:
         """A new variable with this value."""
-        self.count += 1
-        self.names.append(f"v{self.count}")
+        self.names.append(self.new_name())
         return f"{room}let {self.names[-1]} = {value}\n"
+
+    def new_name(self) -> str:
+        """A name of a variable: a new one, or one of a block around the innermost one, which it hides."""
+        if self.hidable and self.draws.random() < 0.2:
+            return self.hidable.pop(self.draws.randrange(len(self.hidable)))
+        self.count += 1
+        return f"v{self.count}"
+
+    def with_status(self, room: str, awaited: str) -> str:
+        """A wait whose status is asked for, too."""
+        self.count += 1
+        total, status = self.new_name(), f"s{self.count}"
+        self.names += [total, status]
+        return f"{room}let {total}, {status} = wait {awaited}\n"
 
     def given(self) -> str:
         """What a variable may be given: a value, or what gives one."""

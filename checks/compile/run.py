@@ -1,7 +1,7 @@
 #!/usr/bin/env python3
 """Compares arena-compile with the compiler in Python, and both with the interpreter of checks/python, which was written from
 docs/LANGUAGE.md alone, on drawn sources, and on some with numbers, bits, loops that count, constants, calls, tasks, groups, cells,
-inline functions, parallel loops, calls inside values, widths, broken lines, and `min`, `max` and `abs`, at their edges: what both make is rehearsed on drawn schedules, and what `arena-compile --serial` prints must
+inline functions, parallel loops, calls inside values, widths, broken lines, `min`, `max` and `abs`, statuses, and names that hide others, at their edges: what both make is rehearsed on drawn schedules, and what `arena-compile --serial` prints must
 be the line of the interpreter's value. Of the examples in examples/jobs those that it takes must give what they say. Sources with
 faults must be refused at the first one. The last line says how many.
 
@@ -35,11 +35,13 @@ from arena.replies import Complete, Fault, FaultCode  # noqa: E402
 from arena.trace.rehearsal import rehearse  # noqa: E402
 from fitting_sources import CROWDED, FITTING  # noqa: E402
 from group_sources import GROUPS  # noqa: E402
+from hiding_sources import HIDING  # noqa: E402
 from inline_sources import INLINES  # noqa: E402
 from parallel_sources import PARALLEL  # noqa: E402
 from reference import TooLong, interpreted  # noqa: E402
 from refused_places import REFUSED  # noqa: E402
 from sharing_sources import SHARING  # noqa: E402
+from status_sources import CANCELED, STATUSES  # noqa: E402
 from unproved import built  # noqa: E402
 from waiting_sources import WAITING  # noqa: E402
 from width_sources import PACKED, WIDTHS, drawn_source  # noqa: E402
@@ -245,10 +247,10 @@ def main(seed: int = 1, programs: int = 400) -> list[str]:
         source, arguments = broken(source, draws) if draws.random() < BREAKING else source, (draws.randint(-5, 9), draws.randint(-5, 9))
         said = difference(program, source, arguments, draws, seen)
         found += [said] if said else []
-    found += [said for source, arguments in (*BITS, *COUNTING, *CALLING, *WAITING, *GROUPS, *INLINES, *PARALLEL, *ASKING, *WIDTHS, *BROKEN, *BUILT_IN) if (said := difference(program, source, arguments, draws, Counter()))]
+    found += [said for source, arguments in (*BITS, *COUNTING, *CALLING, *WAITING, *GROUPS, *INLINES, *PARALLEL, *ASKING, *WIDTHS, *BROKEN, *BUILT_IN, *STATUSES, *HIDING) if (said := difference(program, source, arguments, draws, Counter()))]
     shared = [drawn_source(draws) for _ in range(max(1, programs // 8))]
     found += [said for source, arguments in shared if (said := difference(program, source, arguments, draws, Counter()))]
-    found += [said for source, arguments in (*PACKED, *FURTHER) if (said := packed_difference(program, source, arguments, draws))]
+    found += [said for source, arguments in (*PACKED, *FURTHER, *CANCELED) if (said := packed_difference(program, source, arguments, draws))]
     found += [said for source, arguments, cells in SHARING if (said := difference(program, source, arguments, draws, Counter(), cells))]
     found += [said for source, arguments in FITTING if (said := fitting_difference(program, source, arguments, draws))]
     found += [said for source in CROWDED if (said := crowded_difference(program, source))]
@@ -265,7 +267,7 @@ def main(seed: int = 1, programs: int = 400) -> list[str]:
         print(f"too many programs are refused for registers: {seen['registers']}")
     shown = ", ".join(f"{count} {kind}" for kind, count in sorted(seen.items()))
     print(f"{programs} sources by two compilers ({shown}), {len(BITS)} with bits, {len(COUNTING)} that count, {len(CALLING)} that call, "
-          f"{len(WAITING)} that wait, {len(GROUPS)} with groups, {len(INLINES)} with inline functions, {len(PARALLEL)} with parallel loops, {len(ASKING)} with calls and the like inside values, {len(WIDTHS) + len(PACKED) + len(shared)} with widths, {len(BROKEN) + len(FURTHER)} with broken lines, {len(BUILT_IN)} with min, max and abs, {len(SHARING)} that share, {len(FITTING)} that just fit, {len(TAKEN)} of the examples, {len(REFUSED)} refused: {len(found)} differences")
+          f"{len(WAITING)} that wait, {len(GROUPS)} with groups, {len(INLINES)} with inline functions, {len(PARALLEL)} with parallel loops, {len(ASKING)} with calls and the like inside values, {len(WIDTHS) + len(PACKED) + len(shared)} with widths, {len(BROKEN) + len(FURTHER)} with broken lines, {len(BUILT_IN)} with min, max and abs, {len(STATUSES) + len(CANCELED)} with statuses, {len(HIDING)} that hide names, {len(SHARING)} that share, {len(FITTING)} that just fit, {len(TAKEN)} of the examples, {len(REFUSED)} refused: {len(found)} differences")
     return found or rare
 
 
