@@ -209,6 +209,7 @@ def what_it_shows() -> None:
     connections = asks_both(host)
     status = by_deadline(lambda: shown(host, lambda acme, beta: acme["asks"] == 4 and beta["asks"] == 3))
     assert began - 1 < status["time"] <= time.time() and status["memory"] > 1 << 20 and status["closed"] == []
+    assert began - 1 < status["began"] <= min(it["began"] for it in status["terms"]), status
     assert set(status) == {"version", "time", "began", "connections", "connected", "served", "cut", "tenant_connections",
                            "hello_seconds", "idle_seconds", "rotate_at", "keep", "finish", "durable", "memory", "workers",
                            "tenants", "terms", "closed"}
