@@ -60,7 +60,7 @@ fn words_of(wrong: Wrong) -> &'static str {
         Wrong::TooManyNames => "a function has at most 240 variables",
         Wrong::NotAssigned => "only variables and cells are assigned to, and no index of a loop",
         Wrong::NoConstant => "the value of a constant is made of numbers and of constants above it",
-        Wrong::NoStep => "the step of a `for` is a constant that is not 0",
+        Wrong::NoStep => "a step is a constant that is not 0, and of a `psum` 1 to 1048576",
         Wrong::NoGrain => "the grain of a parallel loop is a constant from 1",
         Wrong::LateItem => "constants and cells stand first, then inline functions, then others",
         Wrong::TooManyItems => "at most 100 of these are taken",

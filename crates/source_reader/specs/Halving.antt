@@ -1,5 +1,7 @@
 -- What the function of a parallel loop does: it halves its range among two tasks, or takes the numbers of a short one by itself.
-use Rattle.std.specs.Prelude.{ℕ, ◌==◌, ℤ, pos, negsuc, Bool, true, false, Some, None, if◌then◌else◌}
+use Rattle.std.specs.Prelude.{ℕ, ◌==◌, ℤ, ◌*ℤ◌, pos, negsuc, Bool, true, false, Some, None, if◌then◌else◌}
+use Rattle.std.specs.Int.{saturate_signed, w64}
+use Rattle.std.specs.Ordering.{int_eq}
 use Rattle.source_language.specs.declared.syntax.Maker.TheVariants as maker
 use Rattle.source_language.specs.declared.syntax.Operator.TheVariants as op
 use Rattle.source_language.specs.Meaning.{is_nought}
@@ -29,21 +31,30 @@ taken gathers.Sum e = if is_0 e then SkipTree else AssignTree TOTAL (TwoTree op.
 taken gathers.Least e = taken_if e (Variable TOTAL) e
 taken gathers.Greatest e = taken_if (Variable TOTAL) e e
 
--- Whether there are more numbers than one task takes. The difference wraps only if there are 2^63 numbers or more, which are taken one by one; or if there
--- are none, and the ends are as far from each other: then both halves have none.
-abbrev pub is_long : (most : ℤ) → TestTree
-is_long n = HoldsTree (TwoTree op.Below (Constant n) (to_end LOW HIGH))
+-- Whether there are more numbers than one task takes, so many steps apart. The difference wraps only if the ends are 2^63 or more from each other: then the
+-- numbers are taken one by one; or if there are none: then both halves have none.
+abbrev pub is_long : (most by : ℤ) → TestTree
+is_long n z = HoldsTree (TwoTree op.Below (Constant (saturate_signed w64 (n *ℤ z))) (to_end LOW HIGH))
 
--- Where the range is halved: both ends in their bits in common, and half of the others. Nothing wraps.
-abbrev pub middle : ExprTree
-middle =
+-- Where a range of single steps is halved: both ends in their bits in common, and half of the others. Nothing wraps.
+abbrev pub half_way : ExprTree
+half_way =
     TwoTree op.Plus (TwoTree op.BitAnd (Variable LOW) (Variable HIGH))
     (TwoTree op.ShiftRight (TwoTree op.BitXor (Variable LOW) (Variable HIGH)) (Constant (pos 1)))
 
+-- where a range of longer steps is halved: a whole number of steps from its lower end, as near to the middle as that can be
+abbrev pub half_by : (by : ℤ) → ExprTree
+half_by z =
+    TwoTree op.Plus (Variable LOW)
+    (TwoTree op.Times (TwoTree op.ShiftRight (TwoTree op.Over (TwoTree op.Plus (to_end LOW HIGH) (Constant z)) (Constant z)) (Constant (pos 1))) (Constant z))
+
+abbrev pub middle : (by : ℤ) → ExprTree
+middle z = if int_eq z (pos 1) then half_way else half_by z
+
 -- both halves as tasks of the same function, and then what is made of what they give
-abbrev pub halved : Gathers → (function : ℕ) → StmtTree
-halved g p =
-    ThenTree (AssignTree TOTAL middle)
+abbrev pub halved : Gathers → (function : ℕ) → (by : ℤ) → StmtTree
+halved g p z =
+    ThenTree (AssignTree TOTAL (middle z))
     (ThenTree (MakeTree (maker.Spawn LOWER) p (Variable LOW) (Variable TOTAL))
     (ThenTree (MakeTree (maker.Spawn UPPER) p (Variable TOTAL) (Variable HIGH))
     (ThenTree (WaitTree (Some TOTAL) None LOWER)
@@ -62,9 +73,9 @@ to_its_end (ContinueTree k) = if k == 0 then SkipTree else ContinueTree k
 to_its_end s = s
 
 -- the body for each number of the range
-abbrev pub one_by_one : Gathers → (body : StmtTree) → StmtTree
-one_by_one g body = ThenTree (AssignTree TOTAL (Constant (neutral g))) (ThenTree (turns LOW HIGH (pos 1) (to_its_end body)) (ReturnTree (Variable TOTAL)))
+abbrev pub one_by_one : Gathers → (by : ℤ) → (body : StmtTree) → StmtTree
+one_by_one g z body = ThenTree (AssignTree TOTAL (Constant (neutral g))) (ThenTree (turns LOW HIGH z (to_its_end body)) (ReturnTree (Variable TOTAL)))
 
 -- the whole function
-abbrev pub gathered : Gathers → (function : ℕ) → (most : ℤ) → (body : StmtTree) → StmtTree
-gathered g p n body = IfTree (is_long n) (halved g p) (one_by_one g body)
+abbrev pub gathered : Gathers → (function : ℕ) → (most by : ℤ) → (body : StmtTree) → StmtTree
+gathered g p n z body = IfTree (is_long n z) (halved g p z) (one_by_one g z body)

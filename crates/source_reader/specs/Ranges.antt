@@ -1,5 +1,5 @@
 -- The heads of parallel loops: an index, its range, and how many numbers one task takes by itself.
-use Rattle.std.specs.Prelude.{ℕ, ◌+◌, ◌-◌, ◌==◌, ℤ, pos, int_lt, Bool, true, false, List, [], ◌∷◌, drop, length, Option, Some, None, Result, Ok, Err, if◌then◌else◌}
+use Rattle.std.specs.Prelude.{ℕ, ◌+◌, ◌-◌, ◌==◌, ◌||◌, ℤ, pos, int_lt, Bool, true, false, List, [], ◌∷◌, drop, length, Option, Some, None, Result, Ok, Err, if◌then◌else◌}
 use Rattle.source_tokens.specs.declared.tokens.Kind.{Kind}
 use Rattle.source_tokens.specs.declared.tokens.Kind.TheVariants as kind
 use Rattle.source_tokens.specs.declared.tokens.Token.{Token}
@@ -9,7 +9,7 @@ use Rattle.source_reader.specs.declared.faults.Wrong.TheVariants as wrong
 use Rattle.source_reader.specs.declared.headers.Title.TheVariants as title
 use Rattle.source_reader.specs.declared.ranges.TheConstants.{GRAIN}
 use Rattle.source_reader.specs.Calls.{argument_at, callee_titled, if_group_left, made}
-use Rattle.source_reader.specs.Constants.{constant_in}
+use Rattle.source_reader.specs.Constants.{constant_in, is_step}
 use Rattle.source_reader.specs.Faults.{◌>>=◌, fault_at}
 use Rattle.source_reader.specs.Lines.{after_begin, after_in, after_range, free_name, is_end}
 use Rattle.source_reader.specs.Marks.{unexpected}
@@ -36,13 +36,27 @@ grain_in names ts = do
   n ← from_one z ts
   Ok (n, v.1)
 
--- behind the range: how many numbers one task takes at most
+-- behind that: how many numbers one task takes at most
 abbrev pub grain_at : Scope → List Token → Result (ℤ × List Token) Fault
 grain_at names ts = if is_grain ts then grain_in names (drop 1 ts) else Ok (GRAIN, ts)
 
 abbrev pub is_begin : Kind → Bool
 is_begin kind.Begin = true
 is_begin k = false
+
+abbrev pub short_step : ℤ → List Token → Result ℤ Fault
+short_step z ts = if int_lt z (pos 1) || int_lt (pos 1048576) z then Err (fault_at ts wrong.NoStep) else Ok z
+
+abbrev pub distance_in : Scope → List Token → Result (ℤ × List Token) Fault
+distance_in names ts = do
+  v ← whole_value names ts
+  z ← constant_in v.0 ts
+  by ← short_step z ts
+  Ok (by, v.1)
+
+-- behind the range: how far the numbers are from each other
+abbrev pub distance_at : Scope → List Token → Result (ℤ × List Token) Fault
+distance_at names ts = if is_step ts then distance_in names (drop 1 ts) else Ok (pos 1, ts)
 
 -- what follows the end of a block in which so many others have begun, if it ends
 abbrev pub after_block : (inner : ℕ) → List Token → Option (List Token)
@@ -65,7 +79,8 @@ parallel_at names x ts = do
   low ← argument_at names from
   to ← after_range low.1
   high ← argument_at names to
-  grain ← grain_at names high.1
+  by ← distance_at names high.1
+  grain ← grain_at names by.1
   inside ← after_begin grain.1
   rest ← ends_there (after_block 0 inside)
   f ← callee_titled (title.Gathering (length ts)) names ts

@@ -11,7 +11,7 @@ use Rattle.source_reader.specs.declared.names.Meaning.{Meaning}
 use Rattle.source_reader.specs.declared.names.Meaning.TheVariants as meaning
 use Rattle.source_reader.specs.declared.simple.Count.{Count}
 use Rattle.source_reader.specs.declared.tasks.Reach.TheVariants as reach
-use Rattle.source_reader.specs.Names.{Scope, Inner, meaning_of, new_number, number_behind}
+use Rattle.source_reader.specs.Names.{Scope, Inner, new_number, number_behind}
 use Rattle.source_reader.specs.declared.names.TaskGroup.{TaskGroup}
 use Rattle.source_reader.specs.Tasks.{group_number, pending_task}
 use Rattle.source_reader.specs.Waits.{awaited_at}

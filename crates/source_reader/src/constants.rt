@@ -1,6 +1,6 @@
 // Values that are numbers before anything is computed.
 ghost use Rattle.std.specs.Prelude.{◌≡◌};
-ghost use Rattle.source_reader.specs.Constants.{constant_of, constant_in, is_step, unless_nought, step_in, step_at};
+ghost use Rattle.source_reader.specs.Constants.{constant_of, constant_in, is_step_of, is_step, unless_nought, step_in, step_at};
 ghost use Rattle.source_reader.specs.Faults.{Gives};
 ghost use Rattle.source_reader.specs.Names.{names_of};
 ghost use Rattle.source_reader.specs.Trees.{tree_of, value_tree_of};
@@ -31,15 +31,22 @@ pub(crate) fn constant_in(alloc: Global, value: Value, tokens: &[Token]) -> Resu
     constant_of(&e, tokens)
 }
 
+/// Whether it is `step`.
+pub(crate) fn is_step_of(kind: Kind) -> bool
+    ensures { result ≡ is_step_of kind }
+{
+    match kind {
+        Kind::Step => true,
+        _ => false,
+    }
+}
+
 /// Whether there is a `step` at the front.
-fn is_step(tokens: &[Token]) -> bool
+pub(crate) fn is_step(tokens: &[Token]) -> bool
     ensures { result ≡ is_step tokens.now }
 {
     match tokens.split_first() {
-        Some((first, _)) => match first.kind {
-            Kind::Step => true,
-            _ => false,
-        },
+        Some((first, _)) => is_step_of(first.kind),
         None => false,
     }
 }

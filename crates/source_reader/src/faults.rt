@@ -21,7 +21,7 @@ pub enum Wrong {
     NotAssigned,
     /// The value of a constant is not written as a number.
     NoConstant,
-    /// The step of a loop is 0.
+    /// The step of a loop is 0, or that of a parallel loop is not from 1 to 1,048,576.
     NoStep,
     /// How many numbers a task of a parallel loop takes is no constant from 1.
     NoGrain,

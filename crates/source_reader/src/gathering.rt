@@ -5,25 +5,26 @@ ghost use Rattle.source_reader.specs.Gathering.{head_end, gathering_at, one_gath
 ghost use Rattle.source_reader.specs.Names.{names_of};
 ghost use Rattle.source_reader.specs.Trees.{function_tree_of};
 
+use crate::constants::is_step_of;
 use crate::faults::{ReadError, Wrong, fault_at};
 use crate::functions::{BODY_FUEL, FUNCTIONS, larger, variables_of, with_function};
 use crate::halving::{LOW, VARIABLES, gathered};
 use crate::headers::gathers_of;
 use crate::lines::free_name;
 use crate::names::{Meaning, Names};
-use crate::ranges::{grain_at, is_begin, is_grain_of};
+use crate::ranges::{distance_at, grain_at, is_begin, is_grain_of};
 use crate::statements::block_at;
 use source_language::Function;
 use source_tokens::{Gathers, Token};
 use std::alloc::Global;
 
-/// What follows the range of a parallel loop: `grain`, or the block.
+/// What follows the range of a parallel loop: `step`, `grain`, or the block.
 fn head_end(tokens: &[Token]) -> &[Token]
     ensures { result.now ≡ head_end tokens.now }
 {
     let mut left = tokens;
     while let [first, rest @ ..] = left {
-        if is_grain_of(first.kind) || is_begin(first.kind) {
+        if is_step_of(first.kind) || is_grain_of(first.kind) || is_begin(first.kind) {
             return left;
         }
         left = rest;
@@ -43,12 +44,13 @@ fn gathering_at(
     ensures { Gives function_tree_of result (gathering_at gathers (names_of names.now) number tokens.now) }
 {
     let index = free_name(names, tokens)?;
-    let (most, block) = grain_at(alloc, names, head_end(tokens))?;
+    let (by, rest) = distance_at(alloc, names, head_end(tokens))?;
+    let (most, block) = grain_at(alloc, names, rest)?;
     let named = Names::Name(index, Meaning::Counter(LOW), names);
     let inner = Names::Gathering(gathers, &named);
     let (body, _) = block_at(alloc, &inner, false, BODY_FUEL, block)?;
     let variables = larger(VARIABLES, variables_of(&body));
-    let body = gathered(alloc, gathers, number, most, body)?;
+    let body = gathered(alloc, gathers, number, most, by, body)?;
     Ok(Function { variables, body })
 }
 

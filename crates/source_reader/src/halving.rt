@@ -1,7 +1,7 @@
 // What the function of a parallel loop does: it halves its range among two tasks, or takes the numbers of a short one
 // by itself.
 ghost use Rattle.std.specs.Prelude.{◌≡◌, IfOk};
-ghost use Rattle.source_reader.specs.Halving.{neutral, is_0, taken_if, taken, is_long, middle, halved, is_skip, to_its_end, one_by_one, gathered};
+ghost use Rattle.source_reader.specs.Halving.{neutral, is_0, taken_if, taken, is_long, half_way, half_by, middle, halved, is_skip, to_its_end, one_by_one, gathered};
 ghost use Rattle.source_reader.specs.Trees.{tree_of, test_tree_of, stmt_tree_of};
 
 use crate::folding::two;
@@ -91,17 +91,18 @@ pub(crate) fn taken(alloc: Global, gathers: Gathers, e: Expr) -> Result<Stmt, Al
     }
 }
 
-/// Whether there are more numbers than one task takes.
-fn is_long(alloc: Global, most: i64) -> Result<Test, AllocError>
-    ensures { IfOk result (λ t. test_tree_of t ≡ is_long most) }
+/// Whether there are more numbers than one task takes, so many steps apart.
+fn is_long(alloc: Global, most: i64, by: i64) -> Result<Test, AllocError>
+    ensures { IfOk result (λ t. test_tree_of t ≡ is_long most by) }
 {
     let size = to_end(alloc, LOW, HIGH)?;
-    Ok(Test::Holds(two(alloc, Operator::Below, Expr::Number(most), size)?))
+    let longest = Expr::Number(most.saturating_mul(by));
+    Ok(Test::Holds(two(alloc, Operator::Below, longest, size)?))
 }
 
-/// Where the range is halved.
-fn middle(alloc: Global) -> Result<Expr, AllocError>
-    ensures { IfOk result (λ e. tree_of e ≡ middle) }
+/// Where a range of single steps is halved.
+fn half_way(alloc: Global) -> Result<Expr, AllocError>
+    ensures { IfOk result (λ e. tree_of e ≡ half_way) }
 {
     let low = Expr::Variable(LOW);
     let same = two(alloc, Operator::BitAnd, low, Expr::Variable(HIGH))?;
@@ -109,6 +110,29 @@ fn middle(alloc: Global) -> Result<Expr, AllocError>
     let different = two(alloc, Operator::BitXor, low, Expr::Variable(HIGH))?;
     let half = two(alloc, Operator::ShiftRight, different, Expr::Number(1))?;
     two(alloc, Operator::Plus, same, half)
+}
+
+/// Where a range is halved, a whole number of steps from its lower end.
+fn half_by(alloc: Global, by: i64) -> Result<Expr, AllocError>
+    ensures { IfOk result (λ e. tree_of e ≡ half_by by) }
+{
+    let size = to_end(alloc, LOW, HIGH)?;
+    let more = two(alloc, Operator::Plus, size, Expr::Number(by))?;
+    let steps = two(alloc, Operator::Over, more, Expr::Number(by))?;
+    let half = two(alloc, Operator::ShiftRight, steps, Expr::Number(1))?;
+    let far = two(alloc, Operator::Times, half, Expr::Number(by))?;
+    two(alloc, Operator::Plus, Expr::Variable(LOW), far)
+}
+
+/// Where the range is halved.
+fn middle(alloc: Global, by: i64) -> Result<Expr, AllocError>
+    ensures { IfOk result (λ e. tree_of e ≡ middle by) }
+{
+    if by == 1 {
+        half_way(alloc)
+    } else {
+        half_by(alloc, by)
+    }
 }
 
 fn lower() -> Group
@@ -124,8 +148,8 @@ fn upper() -> Group
 }
 
 /// Both halves as tasks of the same function, and then what is made of what they give.
-fn halved(alloc: Global, gathers: Gathers, function: u8) -> Result<Stmt, AllocError>
-    ensures { IfOk result (λ s. stmt_tree_of s ≡ halved gathers function) }
+fn halved(alloc: Global, gathers: Gathers, function: u8, by: i64) -> Result<Stmt, AllocError>
+    ensures { IfOk result (λ s. stmt_tree_of s ≡ halved gathers function by) }
 {
     let low = Expr::Variable(LOW);
     let first = Stmt::Make(Maker::Spawn(lower()), function, low, Expr::Variable(TOTAL));
@@ -142,7 +166,7 @@ fn halved(alloc: Global, gathers: Gathers, function: u8) -> Result<Stmt, AllocEr
     let last = then(alloc, Stmt::Wait(Some(TOTAL), None, lower()), last)?;
     let last = then(alloc, second, last)?;
     let last = then(alloc, first, last)?;
-    then(alloc, Stmt::Assign(TOTAL, middle(alloc)?), last)
+    then(alloc, Stmt::Assign(TOTAL, middle(alloc, by)?), last)
 }
 
 fn is_skip(s: &Stmt) -> bool
@@ -184,11 +208,11 @@ fn to_its_end(alloc: Global, body: Stmt) -> Result<Stmt, AllocError>
 }
 
 /// The body for each number of the range.
-fn one_by_one(alloc: Global, gathers: Gathers, body: Stmt) -> Result<Stmt, AllocError>
-    ensures { IfOk result (λ s. stmt_tree_of s ≡ one_by_one gathers (stmt_tree_of body)) }
+fn one_by_one(alloc: Global, gathers: Gathers, by: i64, body: Stmt) -> Result<Stmt, AllocError>
+    ensures { IfOk result (λ s. stmt_tree_of s ≡ one_by_one gathers by (stmt_tree_of body)) }
 {
     let nothing = Stmt::Assign(TOTAL, Expr::Number(neutral(gathers)));
-    let turns = turns(alloc, LOW, HIGH, 1, to_its_end(alloc, body)?)?;
+    let turns = turns(alloc, LOW, HIGH, by, to_its_end(alloc, body)?)?;
     let last = then(alloc, turns, Stmt::Return(Expr::Variable(TOTAL)))?;
     then(alloc, nothing, last)
 }
@@ -199,12 +223,14 @@ pub(crate) fn gathered(
     gathers: Gathers,
     function: u8,
     most: i64,
+    by: i64,
     body: Stmt,
 ) -> Result<Stmt, AllocError>
-    ensures { IfOk result (λ s. stmt_tree_of s ≡ gathered gathers function most (stmt_tree_of body)) }
+    ensures { IfOk result
+        (λ s. stmt_tree_of s ≡ gathered gathers function most by (stmt_tree_of body)) }
 {
-    let is_long = is_long(alloc, most)?;
-    let halved = halved(alloc, gathers, function)?;
-    let short = one_by_one(alloc, gathers, body)?;
+    let is_long = is_long(alloc, most, by)?;
+    let halved = halved(alloc, gathers, function, by)?;
+    let short = one_by_one(alloc, gathers, by, body)?;
     choice(alloc, is_long, halved, short)
 }

@@ -2,11 +2,11 @@
 ghost use Rattle.std.specs.Prelude.{◌≡◌, option_map};
 ghost use Rattle.source_reader.specs.Faults.{Gives};
 ghost use Rattle.source_reader.specs.Names.{names_of};
-ghost use Rattle.source_reader.specs.Ranges.{is_grain_of, is_grain, from_one, grain_in, grain_at, is_begin, after_block, ends_there, parallel_at};
+ghost use Rattle.source_reader.specs.Ranges.{is_grain_of, is_grain, from_one, grain_in, grain_at, short_step, distance_in, distance_at, is_begin, after_block, ends_there, parallel_at};
 ghost use Rattle.source_reader.specs.Trees.{stmt_tree_of};
 
 use crate::calls::{Arguments, Run, argument_at, callee_titled, if_group_left, made};
-use crate::constants::constant_in;
+use crate::constants::{constant_in, is_step};
 use crate::faults::{ReadError, Wrong, fault_at};
 use crate::headers::Title;
 use crate::lines::{after_begin, after_in, after_range, free_name, is_end};
@@ -63,7 +63,7 @@ fn grain_in<'a>(
     Ok((most, rest))
 }
 
-/// How many numbers one task takes by itself, behind the range.
+/// How many numbers one task takes by itself, behind the range and its step.
 pub(crate) fn grain_at<'a>(
     alloc: Global,
     names: &Names,
@@ -75,6 +75,45 @@ pub(crate) fn grain_at<'a>(
         grain_in(alloc, names, after_first(tokens))
     } else {
         Ok((GRAIN, tokens))
+    }
+}
+
+fn short_step(number: i64, tokens: &[Token]) -> Result<i64, ReadError>
+    ensures { Gives (λ n. n) result (short_step number tokens.now) }
+{
+    if number < 1 || number > 1_048_576 {
+        Err(fault_at(tokens, Wrong::NoStep))
+    } else {
+        Ok(number)
+    }
+}
+
+/// How far the numbers are from each other, behind `step`.
+fn distance_in<'a>(
+    alloc: Global,
+    names: &Names,
+    tokens: &'a [Token],
+) -> Result<(i64, &'a [Token]), ReadError>
+    ensures { Gives (λ x. (x.0, x.1.now)) result (distance_in (names_of names.now) tokens.entry.now) }
+{
+    let (value, rest) = whole_value(alloc, names, tokens)?;
+    let number = constant_in(alloc, value, tokens)?;
+    let by = short_step(number, tokens)?;
+    Ok((by, rest))
+}
+
+/// How far the numbers are from each other, behind the range.
+pub(crate) fn distance_at<'a>(
+    alloc: Global,
+    names: &Names,
+    tokens: &'a [Token],
+) -> Result<(i64, &'a [Token]), ReadError>
+    ensures { Gives (λ x. (x.0, x.1.now)) result (distance_at (names_of names.now) tokens.entry.now) }
+{
+    if is_step(tokens) {
+        distance_in(alloc, names, after_first(tokens))
+    } else {
+        Ok((1, tokens))
     }
 }
 
@@ -135,6 +174,7 @@ pub(crate) fn parallel_at<'a>(
     let (first, rest) = argument_at(alloc, names, from)?;
     let to = after_range(rest)?;
     let (second, rest) = argument_at(alloc, names, to)?;
+    let (_by, rest) = distance_at(alloc, names, rest)?;
     let (_most, rest) = grain_at(alloc, names, rest)?;
     let inside = after_begin(rest)?;
     let after = behind_block(inside)?;
