@@ -192,7 +192,7 @@ class Sources:
         self.count, self.parallel_loops, self.in_parallel = self.count + 2, self.parallel_loops + 1, True
         index, copy = f"i{self.count - 1}", f"v{self.count}"
         ends = f"{self.draws.randint(-2, 2)}..{self.draws.choice([str(self.draws.randint(-1, 6)), *(f'{it} % 7' for it in self.names[:1])])}"
-        head = f"{self.draws.choice(('psum', 'pmin', 'pmax'))} {index} in {ends}{self.draws.choice(('', ' grain 1', ' grain 2'))}"
+        head = f"{self.draws.choice(('psum', 'pmin', 'pmax'))} {index} in {ends}{self.draws.choice(('', '', ' step 2', ' step 3'))}{self.draws.choice(('', ' grain 1', ' grain 2'))}"
         self.names, self.hidable, self.pending, self.groups, self.outer_groups, self.further_out, self.cells = [copy], [], [], [], [], 0, []
         lines = "".join(self.statement(1, 1, in_loop=False) for _ in range(self.draws.randint(1, 3)))
         waits = "".join(f"    wait {it}\n" for it in self.pending + self.groups)

@@ -6,8 +6,18 @@ PRIMES = ("fn main(lo, hi) {\n    return psum n in lo..hi grain 4 {\n        if 
           "        while k * k <= n {\n            if n % k == 0 { give 0 }\n            k += 1\n        }\n        give 1\n    }\n}\n")
 FURTHEST = ("fn main(a, b) { return pmax x in 0..9 grain 1 { for y in 0..9 { while y { if x * y == 42 { give y }; break } } } }\n")
 
+STEPS = "fn main(a, b) { return psum i in a..b step 3 grain 1 { give i * i + 1 } }\n"
+
 PARALLEL = (
     (PRIMES, (0, 60)),
+    *((STEPS, (a, b)) for a, b in ((0, 0), (0, 1), (0, 3), (0, 4), (0, 6), (0, 7), (0, 9), (0, 10), (0, 11), (-7, 20), (-8, 20), (-9, 20), (9, -7))),
+    ("fn main(a, b) { return psum i in a..b step 2 grain 2 { give i * i } }\n", (1, 17)),
+    ("fn main(a, b) { return psum i in a..b step 2 grain 2 { give i * i } }\n", (1, 18)),
+    ("fn main(a, b) { let x = pmin i in a..b step 4 grain 2 { give (i - 9) * (i - 9) }; let y = pmax i in a..b step 5 { if i % 2 { give i } }; return x * 100 + y }\n", (0, 40)),
+    ("fn main(a, b) { return psum i in a..b step 1048576 grain 9223372036854775807 { give i } }\n", (-5, 2**24)),
+    ("fn main(a, b) { return psum i in a..b step 1_000_000 grain 3 { give i / 1000 } }\n", (-5, 2**24)),
+    ("const N = 2 * 3\nfn main(a, b) { return psum i in 0..b step N grain 2 { for j in 0..3 { if j > 1 { give j }; if i == 12 { break } }; give i } }\n", (0, 31)),
+    ("fn main(a, b) { return psum i in a..9223372036854775807 step 7 grain 2 { give 1 } }\n", (2**63 - 30, 0)),
     ("fn main(a, b) { return psum i in a..b { give i } }\n", (3, 300)),
     ("fn main(a, b) { return psum i in a..b { give i } }\n", (3, 3)),
     ("fn main(a, b) { let x = psum i in a..b + 2 grain 1 { give i * i }; let y = pmin i in a..b grain 1 { give i * i }; return x * 1000 + y }\n", (-6, 5)),

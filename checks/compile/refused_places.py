@@ -208,7 +208,6 @@ REFUSED = (
     ("fn main(n) {\n    return psum i in 0..n grain 0 { give i }\n}\n", "2:33"),
     ("fn main(n) {\n    return psum i in 0..n grain n { give i }\n}\n", "2:33"),
     ("fn main(n) {\n    return psum i in 0..n grain { give i }\n}\n", "2:33"),
-    ("fn main(n) {\n    return psum i in 0..n step 2 { give i }\n}\n", "2:27"),
     ("fn main(n) {\n    return psum i: u8 in 0..n { give i }\n}\n", "2:18"),
     ("fn main(n) {\n    return psum i in 0 { give i }\n}\n", "2:24"),
     ("fn main(n) {\n    return psum i in 0..n\n    { give i }\n}\n", "2:26"),
@@ -359,4 +358,10 @@ REFUSED = (
     ("inline fn f(x) = x\nfn main(n) {\n    if n { let f = 1 }\n}\n", "3:16"),
     ("fn main(n) {\n    return psum i in 0..n { let i = 1 }\n}\n", "2:33"),
     ("fn main(n) {\n    let a = spawn main(n)\n    if n { let a = 1; wait a }\n}\n", "3:28"),
+    ("fn main(n) {\n    return psum i in 0..n step 0 { give i }\n}\n", "2:32"),
+    ("fn main(n) {\n    return psum i in 0..n step -1 { give i }\n}\n", "2:32"),
+    ("fn main(n) {\n    return psum i in 0..n step 1048577 { give i }\n}\n", "2:32"),
+    ("fn main(n) {\n    return psum i in 0..n step n { give i }\n}\n", "2:32"),
+    ("fn main(n) {\n    return psum i in 0..n step { give i }\n}\n", "2:32"),
+    ("fn main(n) {\n    return psum i in 0..n grain 2 step 3 { give i }\n}\n", "2:35"),
 )
