@@ -42,11 +42,12 @@ half_way =
     TwoTree op.Plus (TwoTree op.BitAnd (Variable LOW) (Variable HIGH))
     (TwoTree op.ShiftRight (TwoTree op.BitXor (Variable LOW) (Variable HIGH)) (Constant (pos 1)))
 
--- where a range of longer steps is halved: a whole number of steps from its lower end, as near to the middle as that can be
+-- Where a range of longer steps is halved: a whole number of steps from its lower end, as near to the middle as that can be. Nothing wraps here, either, as
+-- long as the difference does not.
 abbrev pub half_by : (by : ℤ) → ExprTree
 half_by z =
     TwoTree op.Plus (Variable LOW)
-    (TwoTree op.Times (TwoTree op.ShiftRight (TwoTree op.Over (TwoTree op.Plus (to_end LOW HIGH) (Constant z)) (Constant z)) (Constant (pos 1))) (Constant z))
+    (TwoTree op.Times (TwoTree op.ShiftRight (TwoTree op.Plus (TwoTree op.Over (to_end LOW HIGH) (Constant z)) (Constant (pos 1))) (Constant (pos 1))) (Constant z))
 
 abbrev pub middle : (by : ℤ) → ExprTree
 middle z = if int_eq z (pos 1) then half_way else half_by z

@@ -117,9 +117,9 @@ fn half_by(alloc: Global, by: i64) -> Result<Expr, AllocError>
     ensures { IfOk result (λ e. tree_of e ≡ half_by by) }
 {
     let size = to_end(alloc, LOW, HIGH)?;
-    let more = two(alloc, Operator::Plus, size, Expr::Number(by))?;
-    let steps = two(alloc, Operator::Over, more, Expr::Number(by))?;
-    let half = two(alloc, Operator::ShiftRight, steps, Expr::Number(1))?;
+    let steps = two(alloc, Operator::Over, size, Expr::Number(by))?;
+    let more = two(alloc, Operator::Plus, steps, Expr::Number(1))?;
+    let half = two(alloc, Operator::ShiftRight, more, Expr::Number(1))?;
     let far = two(alloc, Operator::Times, half, Expr::Number(by))?;
     two(alloc, Operator::Plus, Expr::Variable(LOW), far)
 }
