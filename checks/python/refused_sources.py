@@ -85,6 +85,8 @@ REFUSED = [
     Refused(main("return (n"), ":3:1: expected `)`, found `}`"),
     Refused(main("return n n"), ":2:14: expected the end of the statement, found `n`"),
     Refused(main("return n +"), ":3:1: expected an expression, found `}`"),
+    Refused(main("return n + ;", "return 1"), ":2:16: expected an expression, found the end of the line"),
+    Refused(main("let x = ; 1"), ":2:13: expected an expression, found the end of the line"),
     Refused(main("for i in 1 { }"), ":2:16: expected `..` and the end of the range, found `{`"),
     Refused(main("for i in range(n) { }"), ":2:14: there is no `range(..)`: write both ends, as in `0..n`"),
     Refused(main("return psum i in range(0, n) { give i }"),

@@ -101,6 +101,11 @@ class Cursor:
         while self.token.kind is TokenKind.END_OF_LINE:
             self.advance()
 
+    def skip_breaks(self) -> None:
+        """Skips ends of lines where a line may be broken. A semicolon does not break one."""
+        while self.token.kind is TokenKind.END_OF_LINE and self.token.text != ";":
+            self.advance()
+
     def skip_statement(self, fault: SourceFault) -> None:
         """Notes a fault, and skips what is left of the statement that it is in, with the blocks in it."""
         self._notes.note(fault)

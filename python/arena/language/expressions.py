@@ -37,7 +37,7 @@ class Expressions(Cursor):
         left = self.expression(level + 1)
         while self.sees(*LEVELS[level]):
             sign = self.advance()
-            self.skip_lines()
+            self.skip_breaks()
             left = Binary(sign.place, sign.text, left, self.expression(level + 1))
         return left
 
@@ -122,7 +122,7 @@ class Expressions(Cursor):
         if isinstance(low, Application) and low.name == "range" and not self.sees(".."):
             raise low.place.fault("there is no `range(..)`: write both ends, as in `0..n`")
         self.need("..", "`..` and the end of the range")
-        self.skip_lines()
+        self.skip_breaks()
         high = self.expression()
         step: Expression = Number(self.place, 1)
         if self.token.kind is TokenKind.NAME and self.token.text == "step":

@@ -38,7 +38,7 @@ class Parser(Expressions):
             is_parameter = self.advance().text == "param"
             name = self.name()
             self.need("=")
-            self.skip_lines()
+            self.skip_breaks()
             return Constant(place, name, self.expression(), is_parameter)
         if self.take("cell"):
             return CellName(place, self.name("a cell"), self.key())
@@ -46,7 +46,7 @@ class Parser(Expressions):
             self.need("fn")
             name, parameters = self.name("a function"), self.parameters()
             self.need("=")
-            self.skip_lines()
+            self.skip_breaks()
             return Inline(place, name, parameters, self.expression())
         if self.take("fn"):
             return Function(place, self.name("a function"), self.parameters(), self.block())
@@ -130,7 +130,7 @@ class Parser(Expressions):
     def _assigned(self, before: Expression) -> Expression:
         """Reads `= value`, or `+= value` and the like as an operation on what is there before."""
         sign = self.advance()
-        self.skip_lines()
+        self.skip_breaks()
         value = self.expression()
         return value if sign.text == "=" else Binary(sign.place, sign.text[:-1], before, value)
 
@@ -140,11 +140,11 @@ class Parser(Expressions):
         if self.take(","):
             status = self.name("the status")
             self.need("=")
-            self.skip_lines()
+            self.skip_breaks()
             self.need("wait")
             return LetBoth(place, name, status, self.name("a group or a task"))
         self.need("=")
-        self.skip_lines()
+        self.skip_breaks()
         if self.take("spawn"):
             return LetTask(place, name, self.application())
         return Let(place, name, self.expression())
