@@ -166,6 +166,7 @@ class Reader:
         if self.take(","):
             status = self.word()
             self.need("=")
+            self.lines()
             self.need("wait")
             return "both", name, status, self.word()
         self.need("=")
