@@ -22,9 +22,9 @@ pub enum Recovery {
     Unread,
     /// Its term is finished: its history and outcomes are on the disk.
     Finished {
-        /// How many jobs have their outcomes.
+        /// How many jobs the tenant has then.
         jobs: usize,
-        /// How many of these run for ever, as far as their outcome says.
+        /// How many of these have no outcome, since the history was full.
         lost: usize,
         /// Whether it had an entry that the tenant has not done. The term is finished by those before it.
         is_torn_wrong: bool,

@@ -27,7 +27,7 @@ pub(crate) fn recover_all<J: Naming + Send + Sync, R: System>(
     Ok(())
 }
 
-/// Reports what became of a journal, which began at that time of the monotonic clock, in milliseconds.
+/// Reports what became of a journal. Its recovery began at that time of the monotonic clock, in milliseconds.
 fn say_recovery<J: Naming, R: Wait + Clock>(
     rt: &R,
     alloc: Global,
