@@ -46,7 +46,7 @@ from unproved import built  # noqa: E402
 from waiting_sources import WAITING  # noqa: E402
 from width_sources import PACKED, WIDTHS, drawn_source  # noqa: E402
 
-CROWD = "this function needs more than 8 registers"
+CROWD = "this function needs more than 8 registers: `let` inner values be variables, or another fn do a part"
 LIMITS = {CROWD: "registers", "this function is too long for a procedure": "instructions",
           "needs more than 8 registers": "registers", "a procedure has at most": "instructions"}
 """What is said of a function that can't be compiled, by either, and what it has too many of."""

@@ -45,7 +45,8 @@ impl CompileFault {
         match self {
             CompileFault::Source(fault) => words_of(fault.wrong),
             CompileFault::TooLong(_) => "this function is too long for a procedure",
-            CompileFault::Registers(_) => "this function needs more than 8 registers",
+            CompileFault::Registers(_) =>
+                "this function needs more than 8 registers: `let` inner values be variables, or another fn do a part",
             CompileFault::Count(_) => "a job has from 1 to 16 functions",
             CompileFault::NoProcedure(_) => "this function names one that is not there",
         }
