@@ -1,6 +1,7 @@
 #!/usr/bin/env python3
 """Fails each allocation in turn of `failed_allocations`, of `arena-script`, by each of its words, and of `arena-server` with three
-sessions; and each fifth one of `arena-host` with two terms and the start after it, or each one if it is named.
+sessions; each fifth one of `arena-host` with two terms and the start after it; and each third one of a start of it in a folder that a
+killed one left (`recovering.py`): or each one of a program that is named.
 
 With one allocation failed, `failed_allocations` makes the call that failed again and prints the same. A script ends for lack of memory
 after a first part of its answers, or refuses one line and answers the others as if that were not there. The server does not start,
@@ -25,6 +26,7 @@ from concurrent.futures import ThreadPoolExecutor
 from calls import Calls
 from hosting import Host
 from outcomes import Program
+from recovering import LeftHost
 from scripts import scripts
 from sessions import Server
 
@@ -74,7 +76,7 @@ def main() -> None:
         failing = pathlib.Path(folder) / "fail.so"
         source = pathlib.Path(__file__).with_name("fail.c")
         subprocess.run(["cc", "-shared", "-fPIC", "-O2", "-o", failing, source], check=True)
-        for program in [Calls(), *scripts(), Server(), Host()]:
+        for program in [Calls(), *scripts(), Server(), Host(), LeftHost()]:
             if words.names and program.name not in words.names:
                 continue
             failed, others = swept(program, failing, 1 if words.names else program.stride)
