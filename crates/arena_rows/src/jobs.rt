@@ -1,5 +1,5 @@
 // Changes of jobs: what they pay, their faults and their cancels.
-ghost use Rattle.std.specs.Prelude.{◌≡◌, ◌<◌, ℕ, not, length, Some, IsSome};
+ghost use Rattle.std.specs.Prelude.{◌≡◌, ◌-◌, ◌<◌, ℕ, nat_lt, not, length, Some, IsSome};
 ghost use Rattle.tenant_model.specs.State.{State, row};
 ghost use Rattle.tenant_model.specs.Changes.{on_job};
 ghost use Rattle.cancel_context.specs.Forest.{IsForest, IsHeld, held_count};
@@ -42,22 +42,19 @@ impl Parts {
         self.entry_at(top.row.place)
     }
 
-    /// How much fuel a job has left.
-    fn fuel_of(&self, job: u64) -> u64
-        requires { IsCurrent self.now.jobs job }
-        ensures { (d : CurrentJob) → result ≡ (held_job self.now job d).work.fuel }
-    {
-        let index = self.index_of(job);
-        self.jobs[index].work.fuel
-    }
-
-    /// Lets a job have that much fuel left.
-    fn set_fuel(&mut self, job: u64, fuel: u64)
+    /// Lets a job pay for that many instructions, and says whether its fuel sufficed. If it did not,
+    /// none is left.
+    fn pay_job(&mut self, job: u64, cost: u64) -> bool
         requires { IsCurrent self.old.jobs job }
-        ensures { (d : CurrentJob) → self.new ≡ job_changed self.old job (with_fuel_left fuel) d }
+        ensures sufficed { (d : CurrentJob)
+            → result ≡ not (nat_lt (held_job self.old job d).work.fuel cost) }
+        ensures paid { (d : CurrentJob) → self.new ≡ job_changed self.old job
+            (with_fuel_left ((held_job self.old job d).work.fuel - cost)) d }
     {
         let index = self.index_of(job);
-        self.jobs[index].work.fuel = fuel;
+        let fuel = self.jobs[index].work.fuel;
+        self.jobs[index].work.fuel = fuel.saturating_sub(cost);
+        cost <= fuel
     }
 
     /// Lets the job of a slot's topmost row pay for that many instructions, and says whether its fuel
@@ -68,9 +65,7 @@ impl Parts {
             → (result ≡ not (is_poor s n cost)) × Rests self.new (with_fuel_paid s n cost) }
     {
         let job = self.top_entry(slot).job;
-        let fuel = self.fuel_of(job);
-        self.set_fuel(job, fuel.saturating_sub(cost));
-        cost <= fuel
+        self.pay_job(job, cost)
     }
 
     /// Notes a fault of a job, unless it has one already.
