@@ -68,7 +68,7 @@ def build(folder: pathlib.Path) -> pathlib.Path:
     return made
 
 
-STOPPED = ("tenant_lock", "worker_main", "server_doors", "call_queues", "nested_wait", "socket_server", "host_records", "host_terms")
+STOPPED = ("tenant_lock", "worker_main", "server_doors", "call_queues", "nested_wait", "socket_server", "host_records", "host_terms", "host_sessions", "host_keeping", "host_filing")
 """The crates whose functions are points, where the program says where they begin."""
 
 

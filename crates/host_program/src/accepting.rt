@@ -1,7 +1,7 @@
 // The thread that accepts connections.
 
-use crate::clocks::millis;
-use crate::context::HostContext;
+use host_filing::millis;
+use host_keeping::HostContext;
 use host_status::{Event, Fault, Refusal};
 use host_terms::{Cuts, Reception, Tenancy};
 use server_io::Endpoint;
@@ -188,7 +188,7 @@ fn cut<J: Naming, R: Wait + Clock>(
     reception: &Reception<'_, J>,
     now: u64,
 ) {
-    let words = context.words;
+    let words = context.office.words;
     let patience = Patience {
         hello: u64::from(words.hello_seconds).saturating_mul(1000),
         idle: u64::from(words.idle_seconds).saturating_mul(1000),

@@ -1,20 +1,7 @@
-// How a host ends.
-ghost use Rattle.std.specs.Prelude.{◌≡◌, Err, Ok, true, false};
+// What a host that could not serve is told to have lacked.
 
-use dump_lines::DumpFault;
-use host_status::Fault;
-use part_writer::PartFault;
 use program_words::WordsFault;
-use server_io::{ServerEnd, ServerFault};
-
-/// What went wrong with the histories of closed terms.
-#[derive(Clone, Copy, Debug, PartialEq, Eq, Default)]
-pub(crate) struct Faults {
-    /// Whether some term was closed with a fault.
-    pub(crate) has_close_fault: bool,
-    /// Whether some history, or the outcomes of a term, could not be brought to the disk.
-    pub(crate) has_lost_history: bool,
-}
+use server_io::ServerFault;
 
 /// What the process writes to standard error.
 pub(crate) fn fault_text(fault: ServerFault) -> &'static str {
@@ -26,52 +13,10 @@ pub(crate) fn fault_text(fault: ServerFault) -> &'static str {
     }
 }
 
-/// How the host ends, if that went wrong with histories.
-pub(crate) fn end_of(faults: Faults) -> Result<ServerEnd, ServerFault>
-    ensures lost { faults.has_lost_history ≡ true → result ≡ Err ServerFault.Device }
-    ensures fault { faults.has_lost_history ≡ false → faults.has_close_fault ≡ true
-        → result ≡ Ok ServerEnd.Close }
-    ensures done { faults.has_lost_history ≡ false → faults.has_close_fault ≡ false
-        → result ≡ Ok ServerEnd.Done }
-{
-    if faults.has_lost_history {
-        Err(ServerFault::Device)
-    } else if faults.has_close_fault {
-        Ok(ServerEnd::Close)
-    } else {
-        Ok(ServerEnd::Done)
-    }
-}
-
 /// Why the host can't serve whose words were not read.
 pub(crate) fn words_fault(fault: WordsFault) -> ServerFault {
     match fault {
         WordsFault::Words => ServerFault::Words,
         WordsFault::Memory => ServerFault::Memory,
-    }
-}
-
-/// What an event says of a term that could not be opened.
-pub(crate) fn event_fault(fault: ServerFault) -> Fault {
-    match fault {
-        ServerFault::Config | ServerFault::Words => Fault::Config,
-        ServerFault::Memory => Fault::Memory,
-        ServerFault::Device => Fault::Device,
-    }
-}
-
-/// What an event says of a dump that was not written.
-pub(crate) fn event_dump_fault(fault: DumpFault) -> Fault {
-    match fault {
-        DumpFault::Memory => Fault::Memory,
-        DumpFault::Device | DumpFault::NoEntry => Fault::Dump,
-    }
-}
-
-/// Why the host can't begin a journal.
-pub(crate) fn part_fault(fault: PartFault) -> ServerFault {
-    match fault {
-        PartFault::Memory => ServerFault::Memory,
-        PartFault::Failed | PartFault::NoEntry => ServerFault::Device,
     }
 }

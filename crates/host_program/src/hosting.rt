@@ -3,21 +3,16 @@ ghost use Rattle.std.specs.Thread.{IsSend};
 ghost use Rattle.std.specs.Prelude.{◌≡◌, IfOk, length};
 
 use crate::accepting::accept_all;
-use crate::clocks::{millis, seconds};
-use crate::configs::read_config;
-use crate::context::{HostContext, Progress};
-use crate::ends::end_of;
-use crate::filing::Filing;
-use crate::journaling::keep_journals;
-use crate::keeping::Keeper;
-use crate::recovering::recover_all;
-use crate::shower::Shower;
-use crate::system::System;
-use crate::writing::{Writer, write_histories};
+use host_filing::{
+    Filing, Office, System, Writer, end_of, millis, read_config, recover_all, seconds,
+    write_histories,
+};
 use host_folder::{Folder, remove_old_notes};
+use host_keeping::{HostContext, Keeper, Progress, Shower, keep_journals};
 use host_records::Outlet;
+use host_sessions::attend_desk;
 use host_status::Event;
-use host_terms::{Desk, Host, Place, Reception, attend_desk};
+use host_terms::{Desk, Host, Place, Reception};
 use mio::Waker;
 use program_words::HostWords;
 use server_io::{Access, Endpoint, ServerEnd, ServerFault, Watch};
@@ -25,8 +20,8 @@ use std::alloc::{AllocError, Global};
 use std::io::ErrorKind;
 use std::marker::Brand;
 use std::net::Shutdown;
+use std::sync::Wait;
 use std::sync::atomic::Ordering;
-use std::sync::{Arc, Wait};
 use std::thread;
 use std::thread::{Scope, Threads};
 use std::time::{Clock, Duration};
@@ -46,7 +41,7 @@ pub(crate) fn host_tenants<'h, R: System>(
     alloc: Global,
     words: HostWords<'h>,
     folder: &'h Folder,
-    outlet: Arc<Outlet>,
+    outlet: &'h Outlet,
 ) -> Result<ServerEnd, ServerFault> {
     host_named::<Brand, R>(rt, alloc, OpenedRegistry::new(), words, folder, outlet)
 }
@@ -58,7 +53,7 @@ fn host_named<'h, J: Naming + Send + Sync, R: System>(
     opened: OpenedRegistry,
     words: HostWords<'h>,
     folder: &'h Folder,
-    outlet: Arc<Outlet>,
+    outlet: &'h Outlet,
 ) -> Result<ServerEnd, ServerFault>
     requires { opened ≡ J.registry }
 {
@@ -80,27 +75,33 @@ fn host_named<'h, J: Naming + Send + Sync, R: System>(
         host: &host,
         desks: desks.as_slice(),
         places: places.as_slice(),
-        outlet: &outlet,
+        office: Office {
+            outlet,
+            folder,
+            words,
+        },
         progress: &progress,
-        folder,
-        words,
         began: seconds(rt),
         connections,
     };
     context.say(rt, alloc, Event::Start);
-    recover_all(rt, alloc, context, &mut shelves)?;
+    recover_all(rt, alloc, context.office, &mut shelves)?;
     remove_old_notes(rt, folder, &shelves)?;
-    let access = Access {
-        mode: words.mode,
-        group: words.group,
-    };
-    let endpoint = Endpoint::bind(rt, alloc, folder.socket.as_str(), access)?;
+    let endpoint = Endpoint::bind(rt, alloc, folder.socket.as_str(), access_of(words))?;
     let mut keeper = Keeper::new(alloc, config.workers(), Filing::new(alloc, shelves));
     keeper.adopt(rt, alloc, context, &config)?;
     keeper.open_all(rt, alloc, context)?;
     let end = serve(rt, alloc, context, &endpoint, keeper);
     endpoint.remove(rt);
     end
+}
+
+/// Who may use the socket, by the words.
+fn access_of(words: HostWords<'_>) -> Access {
+    Access {
+        mode: words.mode,
+        group: words.group,
+    }
 }
 
 /// Starts the threads of a host, and looks after its terms until it is told to stop and they are closed.
@@ -201,7 +202,7 @@ fn keep_hosting<J: Naming + Send + Sync, R: System>(
     let mut keeper = keeper;
     let mut shower = Shower::new();
     shower.show_now(rt, alloc, context, &keeper);
-    context.outlet.print(rt, Some(listening));
+    context.office.outlet.print(rt, Some(listening));
     for _turn in rt.forever() {
         if !endpoint.is_there(rt) {
             break;
@@ -228,7 +229,7 @@ fn finish<J: Naming + Send + Sync, R: System>(
     context.progress.is_stopping.store(true, Ordering::SeqCst);
     shut_desks(rt, context, Shutdown::Read);
     keeper.leave_all(rt, context);
-    let most = u64::from(context.words.finish).saturating_mul(1000);
+    let most = u64::from(context.office.words.finish).saturating_mul(1000);
     let until = millis(rt).saturating_add(most);
     for _turn in rt.forever() {
         keeper.close_terms(rt, alloc, context, writer, false);

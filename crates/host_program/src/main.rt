@@ -2,24 +2,12 @@
 #![tactic(auto)]
 
 mod accepting;
-mod clocks;
-mod configs;
-mod context;
 mod ends;
-mod filing;
-mod forgetting;
 mod hosting;
-mod journaling;
-mod keeping;
-mod recovering;
-mod shower;
-mod showing;
-mod system;
-mod writing;
 
 use crate::ends::{fault_text, words_fault};
 use crate::hosting::host_tenants;
-use crate::system::System;
+use host_filing::System;
 use host_folder::Folder;
 use host_records::{Outlet, write_printed, write_reported};
 use program_version::{asks_version, print_version};
@@ -71,7 +59,7 @@ fn unheard<R: Eprint>(rt: &R, fault: ServerFault) -> ExitCode {
 }
 
 /// Hosts the tenants that the words name, and tells how that ended.
-fn run<R: System + Env + Print>(rt: &R, outlet: &Arc<Outlet>) -> Result<ServerEnd, ServerFault> {
+fn run<R: System + Env + Print>(rt: &R, outlet: &Outlet) -> Result<ServerEnd, ServerFault> {
     match words_of(rt) {
         Ok(words) => host_words(rt, words.as_slice(), outlet),
         Err(fault) => match fault.kind() {
@@ -108,7 +96,7 @@ fn words_of<R: Env + AllocGlobal>(rt: &R) -> io::Result<Vec<String>> {
 fn host_words<R: System + Print>(
     rt: &R,
     words: &[String],
-    outlet: &Arc<Outlet>,
+    outlet: &Outlet,
 ) -> Result<ServerEnd, ServerFault> {
     let mut texts = Vec::new(rt.alloc());
     for word in words {
@@ -134,7 +122,7 @@ fn host_words<R: System + Print>(
 fn host_alone<R: System>(
     rt: &R,
     words: HostWords<'_>,
-    outlet: &Arc<Outlet>,
+    outlet: &Outlet,
 ) -> Result<ServerEnd, ServerFault> {
     let alloc = rt.alloc();
     let folder = Folder::new(alloc, words.run)?;
@@ -149,7 +137,7 @@ fn host_alone<R: System>(
     if !is_locked(rt, &lock) {
         return Err(ServerFault::Device);
     }
-    let end = host_tenants(rt, alloc, words, &folder, Arc::try_clone(outlet)?);
+    let end = host_tenants(rt, alloc, words, &folder, outlet);
     // Another host may work there from now on.
     drop(lock);
     end

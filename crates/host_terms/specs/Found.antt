@@ -3,7 +3,7 @@ use Rattle.std.specs.Prelude.{ℕ, ◌≡◌, ◌⊎◌, List, true}
 use Rattle.job_language.specs.declared.answers.Reply.TheVariants.{Refused}
 use Rattle.job_language.specs.declared.errors.Error.TheVariants.{NoMemory}
 use Rattle.job_language.specs.declared.requests.Request.{Request}
-use Rattle.host_terms.specs.Answers.{IsKeptAnswer}
+use Rattle.host_terms.specs.Looks.{IsKeptAnswer}
 use Rattle.host_terms.specs.Bookings.{IsOf}
 use Rattle.host_terms.specs.declared.tenancies.Found.{Found}
 use Rattle.host_terms.specs.declared.tenancies.Found.TheVariants.{Live, Answered, Leaving}

@@ -1,6 +1,6 @@
-pub mod Answers
 pub mod Bookings
-pub mod Endings
 pub mod Found
-pub mod Hellos
+pub mod Looks
+pub mod Names
+pub mod Refusals
 pub mod Turns

@@ -75,7 +75,7 @@ fn with_one_more(connected: u64, most: u64) -> Option<u64>
 }
 
 /// A connection's place at a tenant, which goes back when this is dropped, however the connection ended.
-pub(crate) struct Admission<J: Naming> {
+pub struct Admission<J: Naming> {
     tenancy: Arc<Tenancy<J>>,
 }
 
@@ -92,7 +92,7 @@ impl<J: Naming> Admission<J> {
     }
 
     /// The tenant.
-    pub(crate) fn tenancy(&self) -> &Tenancy<J>
+    pub fn tenancy(&self) -> &Tenancy<J>
         ensures { result.now ≡ arc_value self.now.tenancy }
     {
         &self.tenancy

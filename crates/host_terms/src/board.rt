@@ -10,7 +10,7 @@ use worker_main::{Bell, Signal};
 
 /// How many calls wait at each level, in all terms together, and the bell that is rung for each.
 #[derive(Drop)]
-pub(crate) struct Board {
+pub struct Board {
     bell: Bell,
     high: AtomicI64,
     normal: AtomicI64,

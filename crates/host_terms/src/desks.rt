@@ -1,10 +1,7 @@
 // The places of a host's sessions, each of which serves one client after another.
 
-mod attending;
-
 use crate::outbox::{Outbox, lost};
 use crate::terms::Booking;
-pub use attending::attend_desk;
 use host_records::Kept;
 use server_io::Watch;
 use std::alloc::Global;
@@ -131,23 +128,23 @@ impl<J: Naming> Desk<J> {
     }
 
     /// The session is bound to a tenant.
-    pub(crate) fn bind(&self) {
+    pub fn bind(&self) {
         self.asked.fetch_add(1, Ordering::SeqCst);
         self.is_bound.store(true, Ordering::SeqCst);
     }
 
     /// The session is bound to no tenant any more.
-    pub(crate) fn unbind(&self) {
+    pub fn unbind(&self) {
         self.is_bound.store(false, Ordering::SeqCst);
     }
 
     /// The session begins a request, or goes on waiting for its reply.
-    pub(crate) fn begin_asking(&self) {
+    pub fn begin_asking(&self) {
         self.is_asking.store(true, Ordering::SeqCst);
     }
 
     /// The session was answered.
-    pub(crate) fn end_asking(&self) {
+    pub fn end_asking(&self) {
         self.asked.fetch_add(1, Ordering::SeqCst);
         self.is_asking.store(false, Ordering::SeqCst);
     }
@@ -167,22 +164,22 @@ impl<J: Naming> Desk<J> {
     }
 
     /// Raised while the guest has gone.
-    pub(crate) fn is_gone(&self) -> &StopFlag {
+    pub fn is_gone(&self) -> &StopFlag {
         &self.is_gone
     }
 
     /// Where the session's replies go.
-    pub(crate) fn outbox(&self) -> &Outbox {
+    pub fn outbox(&self) -> &Outbox {
         &self.outbox
     }
 
     /// The session's place in the term that it asked last.
-    pub(crate) fn take_booking<R: Wait>(&self, rt: &R) -> Option<Booking<J>> {
+    pub fn take_booking<R: Wait>(&self, rt: &R) -> Option<Booking<J>> {
         self.booking.lock(rt).take()
     }
 
     /// Keeps the session's place for its next request, in the place of another one.
-    pub(crate) fn keep_booking<R: Wait>(&self, rt: &R, booking: Booking<J>) {
+    pub fn keep_booking<R: Wait>(&self, rt: &R, booking: Booking<J>) {
         let before = self.booking.lock(rt).replace(booking);
         if let Some(before) = before {
             before.give_back(rt);
@@ -191,7 +188,7 @@ impl<J: Naming> Desk<J> {
 
     /// Gives the session's place back to its term. What the term was asked is kept before, or no reply goes out any
     /// more.
-    pub(crate) fn give_back<R: Wait>(&self, rt: &R, alloc: Global, booking: Booking<J>) {
+    pub fn give_back<R: Wait>(&self, rt: &R, alloc: Global, booking: Booking<J>) {
         if self.outbox.is_owing() {
             self.outbox.settle(booking.term().kept(rt, alloc));
         }
@@ -199,7 +196,7 @@ impl<J: Naming> Desk<J> {
     }
 
     /// Lets all replies go out that wait, once what they tell is kept. If that can't be, none goes out any more.
-    pub(crate) fn let_out<R: Wait>(&self, rt: &R, alloc: Global) -> io::Result<()> {
+    pub fn let_out<R: Wait>(&self, rt: &R, alloc: Global) -> io::Result<()> {
         if self.outbox.is_empty(rt) && !self.outbox.is_owing() {
             return Ok(());
         }
@@ -240,7 +237,7 @@ impl<J: Naming> Desk<J> {
     }
 
     /// The stream of the next guest. None if no more come.
-    fn next_guest<R: Wait>(&self, rt: &R) -> Option<Arc<UnixStream>> {
+    pub fn next_guest<R: Wait>(&self, rt: &R) -> Option<Arc<UnixStream>> {
         let mut seating = self
             .changed
             .wait_while(rt, self.seating.lock(rt), |seating| {
@@ -250,7 +247,7 @@ impl<J: Naming> Desk<J> {
     }
 
     /// The guest's session has ended.
-    fn free<R: Wait>(&self, rt: &R) {
+    pub fn free<R: Wait>(&self, rt: &R) {
         let mut seating = self.seating.lock(rt);
         seating.guest = None;
         self.is_gone.lower();

@@ -1,7 +1,7 @@
 // What all threads of a host share.
 ghost use Rattle.std.specs.Prelude.{◌≡◌, IfErr, IfOk};
-ghost use Rattle.std.specs.Arc.{arc_value};
-ghost use Rattle.host_terms.specs.Hellos.{IsRefusal};
+ghost use Rattle.host_terms.specs.Names.{admitted_name};
+ghost use Rattle.host_terms.specs.Refusals.{IsRefusal};
 
 mod working;
 
@@ -60,11 +60,12 @@ impl<J: Naming> Host<J> {
     }
 
     /// Whether a term is to take no new jobs, if the next one can be opened.
-    pub(crate) fn is_used<R: Wait>(&self, rt: &R, term: &HostTerm<J>) -> bool {
+    pub fn is_used<R: Wait>(&self, rt: &R, term: &HostTerm<J>) -> bool {
         term.is_used(rt, self.latest)
     }
 
-    pub(crate) fn board(&self) -> &Board {
+    /// Where calls of all terms are noted.
+    pub fn board(&self) -> &Board {
         &self.board
     }
 
@@ -98,13 +99,13 @@ impl<J: Naming> Host<J> {
 
     /// A place for one more connection at the tenant of that number, which has that name. An error if it has as many
     /// connections as it may.
-    pub(crate) fn admit<R: Wait>(
+    pub fn admit<R: Wait>(
         &self,
         rt: &R,
         tenant: usize,
         name: TenantName,
     ) -> Result<Admission<J>, Error>
-        ensures name { IfOk result (λ a. (arc_value a.tenancy).name ≡ name) }
+        ensures name { IfOk result (λ a. admitted_name a ≡ name) }
         ensures refused { IfErr result IsRefusal }
     {
         let Some(tenancy) = self.tenancy(rt, tenant) else {

@@ -1,5 +1,5 @@
-//! The terms of a host's tenants, and the sessions and workers that serve them: a session belongs to a tenant and stays
-//! when its terms follow one another, and workers come to all terms.
+//! The terms of a host's tenants, the places of sessions in them, and the workers that serve them: a session belongs to a
+//! tenant and stays when its terms follow one another, and workers come to all terms.
 #![tactic(auto)]
 
 mod admissions;
@@ -8,19 +8,20 @@ mod crowd;
 mod desks;
 mod endings;
 mod hosts;
-mod numbering;
 mod outbox;
 mod places;
 mod reception;
 mod roster;
-mod sessions;
 mod tenancies;
 mod terms;
 
-pub use desks::{Desk, attend_desk};
-pub use endings::{Ending, TermEnd};
+pub use admissions::Admission;
+pub use board::Board;
+pub use desks::Desk;
+pub use endings::Ending;
 pub use hosts::Host;
+pub use outbox::{Outbox, Owed};
 pub use places::Place;
 pub use reception::{Cuts, Reception};
-pub use tenancies::Tenancy;
-pub use terms::HostTerm;
+pub use tenancies::{Found, Tenancy};
+pub use terms::{Booking, HostTerm};

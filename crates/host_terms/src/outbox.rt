@@ -2,28 +2,26 @@
 // came together wait for one write of the journal, and go out by one write to the stream.
 ghost use Rattle.std.specs.Prelude.{◌≤◌, IfOk, length};
 
-use crate::desks::Desk;
 use host_records::Kept;
 use std::alloc::{AllocError, Global};
 use std::io;
-use std::io::{ErrorKind, Read, Write};
+use std::io::{ErrorKind, Write};
 use std::os::unix::net::UnixStream;
 use std::sync::atomic::{AtomicBool, Ordering};
 use std::sync::{Arc, Mutex, Wait};
-use tenant_book::Naming;
 
 /// How many bytes of replies wait at most.
 const ROOM: usize = 4096;
 
 /// The outbox knows that a term has answered, so that the reply goes out only once that is kept. `Outbox::owe` alone
 /// makes one, and the reply that tells the answer ends it.
-pub(crate) struct Owed {
+pub struct Owed {
     _made_here: (),
 }
 
 impl Owed {
     /// The reply tells the answer.
-    pub(crate) fn told(self) {
+    pub fn told(self) {
         let Owed { _made_here: () } = self;
     }
 }
@@ -39,7 +37,7 @@ struct Held {
 /// The replies of a desk's session on their way to its client. A client that takes none holds up the session's thread
 /// alone: no other thread takes the lock.
 #[derive(Drop)]
-pub(crate) struct Outbox {
+pub struct Outbox {
     held: Mutex<Option<Held>>,
     /// Whether what the term was asked in which the session has its place may not be kept yet. What other terms were
     /// asked is.
@@ -59,7 +57,7 @@ impl Outbox {
     }
 
     /// From now on replies are for the client of a stream.
-    pub(crate) fn open<R: Wait>(
+    pub fn open<R: Wait>(
         &self,
         rt: &R,
         alloc: Global,
@@ -73,12 +71,12 @@ impl Outbox {
     }
 
     /// The client's session has ended.
-    pub(crate) fn close<R: Wait>(&self, rt: &R) {
+    pub fn close<R: Wait>(&self, rt: &R) {
         let _ended = self.held.lock(rt).take();
     }
 
     /// The term in which the session has its place was asked for the next reply, which goes out once that is kept.
-    pub(crate) fn owe(&self) -> Owed {
+    pub fn owe(&self) -> Owed {
         self.is_owing.store(true, Ordering::SeqCst);
         Owed { _made_here: () }
     }
@@ -122,7 +120,7 @@ impl Outbox {
     }
 
     /// Adds a part of a reply to those that wait, and says how many bytes it took.
-    fn hold<R: Wait>(&self, rt: &R, bytes: &[u8]) -> io::Result<usize>
+    pub fn hold<R: Wait>(&self, rt: &R, bytes: &[u8]) -> io::Result<usize>
         ensures { IfOk result (λ count. count ≤ length bytes.now) }
     {
         let mut held = self.held.lock(rt);
@@ -134,7 +132,7 @@ impl Outbox {
     }
 
     /// Whether there is no room for so many bytes more.
-    fn is_full_with<R: Wait>(&self, rt: &R, more: usize) -> bool {
+    pub fn is_full_with<R: Wait>(&self, rt: &R, more: usize) -> bool {
         match &*self.held.lock(rt) {
             Some(held) => held.lines.len().saturating_add(more) > ROOM,
             None => false,
@@ -145,43 +143,4 @@ impl Outbox {
 /// The replies can't go out.
 pub(crate) fn lost() -> io::Error {
     io::Error::from(ErrorKind::BrokenPipe)
-}
-
-/// What a desk's session reads: before more is read, the replies to what was read go out.
-#[derive(Drop)]
-pub(crate) struct Incoming<'s, J: Naming, R: Wait> {
-    pub(crate) rt: &'s R,
-    pub(crate) alloc: Global,
-    pub(crate) desk: &'s Desk<J>,
-    pub(crate) stream: &'s UnixStream,
-}
-
-impl<'s, J: Naming, R: Wait> Read for Incoming<'s, J, R> {
-    fn read(&mut self, room: &mut [u8]) -> io::Result<usize> {
-        self.desk.let_out(self.rt, self.alloc)?;
-        let mut stream = self.stream;
-        stream.read(room)
-    }
-}
-
-/// Where a desk's session writes its replies.
-#[derive(Drop)]
-pub(crate) struct Outgoing<'s, J: Naming, R: Wait> {
-    pub(crate) rt: &'s R,
-    pub(crate) alloc: Global,
-    pub(crate) desk: &'s Desk<J>,
-}
-
-impl<'s, J: Naming, R: Wait> Write for Outgoing<'s, J, R> {
-    fn write(&mut self, bytes: &[u8]) -> io::Result<usize> {
-        let outbox = self.desk.outbox();
-        if outbox.is_full_with(self.rt, bytes.len()) {
-            self.desk.let_out(self.rt, self.alloc)?;
-        }
-        outbox.hold(self.rt, bytes)
-    }
-
-    fn flush(&mut self) -> io::Result<()> {
-        self.desk.let_out(self.rt, self.alloc)
-    }
 }

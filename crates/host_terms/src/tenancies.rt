@@ -58,7 +58,7 @@ impl<J: Naming> Lives<J> {
 
 /// Where a job is to be asked for.
 #[derive(Drop)]
-pub(crate) enum Found<J: Naming> {
+pub enum Found<J: Naming> {
     /// In its term.
     Live(Booking<J>),
     /// Its term is closed, or there is none: the reply.
@@ -267,7 +267,7 @@ impl<J: Naming> Tenancy<J> {
     }
 
     /// A place in the term that serves. None if none does.
-    pub(crate) fn book_serving<R: Wait>(&self, rt: &R) -> Option<Booking<J>>
+    pub fn book_serving<R: Wait>(&self, rt: &R) -> Option<Booking<J>>
         ensures { IfSome result (λ b. IsOf self.now.name b.term) }
     {
         let lives = self.lives.lock(rt);
@@ -275,7 +275,7 @@ impl<J: Naming> Tenancy<J> {
     }
 
     /// Where a job is to be asked for, by its number outside.
-    pub(crate) fn find<R: Wait>(&self, rt: &R, job: u64, request: &Request) -> Found<J>
+    pub fn find<R: Wait>(&self, rt: &R, job: u64, request: &Request) -> Found<J>
         ensures { IsFound self.now.name job request.now result }
     {
         let mut lives = self.lives.lock(rt);

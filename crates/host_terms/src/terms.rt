@@ -12,7 +12,7 @@ mod looks;
 use crate::board::{Board, Calls, TermSignal};
 use crate::crowd::Crowd;
 use crate::places::{Place, TermGate};
-pub(crate) use bookings::Booking;
+pub use bookings::Booking;
 use host_records::{Journal, Kept, bring_to_journal};
 use job_language::{Config, Level, TenantConfig, TenantName};
 use server_house::{ClientSeats, House, Lodging, OwnClient, OwnPost};
@@ -131,7 +131,7 @@ impl<J: Naming> HostTerm<J> {
     }
 
     /// Whether it is a term of the tenant of that name.
-    pub(crate) fn is_of(&self, name: TenantName) -> bool
+    pub fn is_of(&self, name: TenantName) -> bool
         ensures { result ≡ true → IsOf name (seen_of self.now) }
     {
         self.house.is_of(name)
@@ -164,7 +164,7 @@ impl<J: Naming> HostTerm<J> {
     }
 
     /// Whether it takes no new jobs.
-    pub(crate) fn is_left(&self) -> bool {
+    pub fn is_left(&self) -> bool {
         self.is_left.load(Ordering::SeqCst)
     }
 

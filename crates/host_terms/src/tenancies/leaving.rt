@@ -81,7 +81,7 @@ impl<J: Naming> Tenancy<J> {
     }
 
     /// Whether a row is open in a term that was left.
-    pub(crate) fn is_busy_before<R: Wait>(&self, rt: &R) -> bool {
+    pub fn is_busy_before<R: Wait>(&self, rt: &R) -> bool {
         let lives = self.lives.lock(rt);
         lives.live.iter().any(|term| {
             term.is_left()

@@ -1,5 +1,5 @@
 // What a tenant answers of its closed terms, what it forgets of them, and where that is noted.
-ghost use Rattle.host_terms.specs.Answers.{IsKeptAnswer};
+ghost use Rattle.host_terms.specs.Looks.{IsKeptAnswer};
 
 use super::Tenancy;
 use host_records::Notes;
@@ -13,7 +13,7 @@ use tenant_book::Naming;
 impl<J: Naming> Tenancy<J> {
     /// The reply to a request about a job, by its number outside, whose term is closed, once it is noted if the job is
     /// released.
-    pub(crate) fn answer_closed<R: Wait>(&self, rt: &R, job: u64, request: &Request) -> Reply
+    pub fn answer_closed<R: Wait>(&self, rt: &R, job: u64, request: &Request) -> Reply
         ensures { IsKeptAnswer request.now job result }
     {
         self.lives.lock(rt).outcomes.answer(job, request)
@@ -33,7 +33,7 @@ impl<J: Naming> Tenancy<J> {
     }
 
     /// Notes that a job, by its number outside, is released, whose term is closed.
-    pub(crate) fn note_release<R: Wait>(&self, rt: &R, alloc: Global, job: u64) -> io::Result<()> {
+    pub fn note_release<R: Wait>(&self, rt: &R, alloc: Global, job: u64) -> io::Result<()> {
         match &mut *self.notes.lock(rt) {
             Some(notes) => notes.release(alloc, job),
             None => Err(io::Error::from(ErrorKind::NotFound)),
@@ -41,12 +41,7 @@ impl<J: Naming> Tenancy<J> {
     }
 
     /// Notes that all jobs are retired whose terms are before the one of that number.
-    pub(crate) fn note_retired<R: Wait>(
-        &self,
-        rt: &R,
-        alloc: Global,
-        before: u64,
-    ) -> io::Result<()> {
+    pub fn note_retired<R: Wait>(&self, rt: &R, alloc: Global, before: u64) -> io::Result<()> {
         match &mut *self.notes.lock(rt) {
             Some(notes) => notes.retire(alloc, before),
             None => Err(io::Error::from(ErrorKind::NotFound)),
@@ -54,7 +49,7 @@ impl<J: Naming> Tenancy<J> {
     }
 
     /// Whether jobs of terms before the one of that number may be known.
-    pub(crate) fn has_jobs_before<R: Wait>(&self, rt: &R, number: u64) -> bool {
+    pub fn has_jobs_before<R: Wait>(&self, rt: &R, number: u64) -> bool {
         let lives = self.lives.lock(rt);
         lives.retired < number
             && (!lives.outcomes.is_empty()
@@ -62,7 +57,7 @@ impl<J: Naming> Tenancy<J> {
     }
 
     /// The jobs of all terms before the one of that number are retired.
-    pub(crate) fn retire_before<R: Wait>(&self, rt: &R, number: u64) {
+    pub fn retire_before<R: Wait>(&self, rt: &R, number: u64) {
         let mut lives = self.lives.lock(rt);
         lives.outcomes.clear_before(number);
         lives.retired = lives.retired.max(number);

@@ -31,7 +31,7 @@ impl<J: Naming> Lives<J> {
 impl<J: Naming> Tenancy<J> {
     /// Waits until a term serves that is not the one of that number, and says whether one does. It does not if none can
     /// be opened, the flag is raised, or older terms are not closed within some seconds.
-    pub(crate) fn wait_for_next<R: Wait + Clock>(
+    pub fn wait_for_next<R: Wait + Clock>(
         &self,
         rt: &R,
         number: Option<u64>,
@@ -55,7 +55,7 @@ impl<J: Naming> Tenancy<J> {
 
     /// Waits until a term serves that is not the one of that number, unless none can be opened now, older ones are to
     /// be closed before, or the flag is raised.
-    pub(crate) fn wait_if_one_comes<R: Wait + Clock>(&self, rt: &R, number: u64, stop: &StopFlag) {
+    pub fn wait_if_one_comes<R: Wait + Clock>(&self, rt: &R, number: u64, stop: &StopFlag) {
         let mut lives = self.lives.lock(rt);
         for _look in rt.forever() {
             if lives.has_other(Some(number)) || lives.has_none_coming() || lives.is_held {

@@ -14,7 +14,7 @@ use tenant_book::Naming;
 use tenant_lock::StopFlag;
 
 /// A session's place in a term.
-pub(crate) struct Booking<J: Naming> {
+pub struct Booking<J: Naming> {
     term: Arc<HostTerm<J>>,
     client: OwnClient<J>,
 }
@@ -60,14 +60,15 @@ impl<J: Naming> Booking<J> {
         Some(Booking { term, client })
     }
 
-    pub(crate) fn term(&self) -> &HostTerm<J>
+    /// The term.
+    pub fn term(&self) -> &HostTerm<J>
         ensures { self.now.term ≡ seen_of result.now }
     {
         &self.term
     }
 
     /// Asks the term's tenant, and attends the slot that a job is placed on.
-    pub(crate) fn ask<R: Wait>(
+    pub fn ask<R: Wait>(
         self,
         rt: &R,
         board: &Board,
@@ -91,12 +92,12 @@ impl<J: Naming> Booking<J> {
     }
 
     /// Waits while a job, by its number outside, has no outcome, and says whether to stop.
-    pub(crate) fn wait_for<R: Wait>(&self, rt: &R, job: u64, stop: &StopFlag) -> bool {
+    pub fn wait_for<R: Wait>(&self, rt: &R, job: u64, stop: &StopFlag) -> bool {
         self.client.wait_for(rt, self.term.span.inside(job), stop)
     }
 
     /// Gives the place back to its term.
-    pub(crate) fn give_back<R: Wait>(self, rt: &R) {
+    pub fn give_back<R: Wait>(self, rt: &R) {
         let Booking { term, client } = self;
         // There is room for it: it was there before.
         let _kept = term.clients.lock(rt).push(client);

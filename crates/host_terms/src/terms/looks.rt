@@ -1,6 +1,6 @@
 // How far a term is, and its jobs are.
 ghost use Rattle.std.specs.Prelude.{IfSome};
-ghost use Rattle.host_terms.specs.Answers.{IsLooked};
+ghost use Rattle.host_terms.specs.Looks.{IsLooked};
 ghost use Rattle.host_terms.specs.Bookings.{seen_of};
 
 use super::HostTerm;
@@ -41,7 +41,7 @@ impl<J: Naming> HostTerm<J> {
 
     /// The reply to a request about a job, by its number here, that a look is enough for: its history has no entry of
     /// it.
-    pub(crate) fn look_up<R: Wait>(&self, rt: &R, request: &Request) -> Option<Told>
+    pub fn look_up<R: Wait>(&self, rt: &R, request: &Request) -> Option<Told>
         ensures { IfSome result (IsLooked (seen_of self.now) request.now) }
     {
         let (job, waits) = match request {
