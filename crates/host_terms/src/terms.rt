@@ -1,5 +1,5 @@
 // A term of a tenant: a house of this tenant alone, and the places of all threads in it.
-ghost use Rattle.std.specs.Prelude.{◌≡◌, ◌≤◌, ◌⊎◌, [], ◌∷◌, IfErr, IfOk, option_map, true};
+ghost use Rattle.std.specs.Prelude.{◌≡◌, ◌≢◌, ◌≤◌, ◌⊎◌, [], ◌∷◌, IfErr, IfOk, Some, false, option_map, true};
 ghost use Rattle.server_io.specs.declared.ends.ServerFault.TheVariants as end;
 ghost use Rattle.std.specs.Arc.{arc_value};
 ghost use Rattle.server_house.specs.Houses.{first_life};
@@ -132,7 +132,8 @@ impl<J: Naming> HostTerm<J> {
 
     /// Whether it is a term of the tenant of that name.
     pub fn is_of(&self, name: TenantName) -> bool
-        ensures { result ≡ true → IsOf name (seen_of self.now) }
+        ensures own { result ≡ true → IsOf name (seen_of self.now) }
+        ensures other { result ≡ false → (seen_of self.now).name ≢ Some name }
     {
         self.house.is_of(name)
     }
@@ -141,6 +142,8 @@ impl<J: Naming> HostTerm<J> {
     fn is_home_of(&self, client: &OwnClient<J>, name: TenantName) -> bool
         ensures at { result ≡ true → IsAt (seen_of self.now) client.now }
         ensures name { result ≡ true → IsOf name (seen_of self.now) }
+        ensures home { IsAt (seen_of self.now) client.now → IsOf name (seen_of self.now)
+            → result ≡ true }
     {
         client.life() == self.house.first_life() && client.is_of(name) && self.is_of(name)
     }

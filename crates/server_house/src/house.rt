@@ -1,5 +1,5 @@
 // What all threads of a server share.
-ghost use Rattle.std.specs.Prelude.{◌≡◌, ◌≤◌, ◌+◌, All, IfOk, Some, length, true};
+ghost use Rattle.std.specs.Prelude.{◌≡◌, ◌≢◌, ◌≤◌, ◌+◌, All, IfOk, Some, false, length, true};
 ghost use Rattle.job_language.specs.Configuration.{names_of};
 ghost use Rattle.job_language.specs.Tenant.{IsValidTenant};
 ghost use Rattle.server_house.specs.Houses.{AreDoorsOf, first_life, first_name, seats_of};
@@ -147,7 +147,8 @@ impl<J: Naming> House<J> {
 
     /// Whether the first tenant has that name.
     pub fn is_of(&self, name: TenantName) -> bool
-        ensures { result ≡ true → first_name self.now.doors ≡ Some name }
+        ensures own { result ≡ true → first_name self.now.doors ≡ Some name }
+        ensures other { result ≡ false → first_name self.now.doors ≢ Some name }
     {
         match self.names.first() {
             Some(own) => own.as_bytes() == name.as_bytes(),

@@ -1,5 +1,5 @@
 // Places in a house whose threads come and go: each keeps the house alive.
-ghost use Rattle.std.specs.Prelude.{◌≡◌, All, Some, true};
+ghost use Rattle.std.specs.Prelude.{◌≡◌, ◌≢◌, All, Some, false, true};
 ghost use Rattle.std.specs.Arc.{arc_value};
 ghost use Rattle.server_house.specs.Houses.{first_life, first_name};
 ghost use Rattle.server_doors.specs.Slots.{AreFronts};
@@ -175,7 +175,8 @@ impl<J: Naming> OwnClient<J> {
 
     /// Whether the house's first tenant has that name.
     pub fn is_of(&self, name: TenantName) -> bool
-        ensures { result ≡ true → first_name self.now.post.house.doors ≡ Some name }
+        ensures own { result ≡ true → first_name self.now.post.house.doors ≡ Some name }
+        ensures other { result ≡ false → first_name self.now.post.house.doors ≢ Some name }
     {
         self.house.is_of(name)
     }
