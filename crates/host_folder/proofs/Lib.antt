@@ -1,2 +1,5 @@
 pub mod Prefixes
 pub mod Finished
+pub mod Reading
+pub mod Ascii
+pub mod Outcomes

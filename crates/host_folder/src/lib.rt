@@ -10,6 +10,7 @@ mod numbers;
 mod recovering;
 mod results;
 mod shelves;
+mod words;
 
 pub use files::sync_folder;
 pub use folders::{Begin, Folder, LeftJournal};
