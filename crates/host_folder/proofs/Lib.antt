@@ -3,3 +3,4 @@ pub mod Finished
 pub mod Reading
 pub mod Ascii
 pub mod Outcomes
+pub mod Spans

@@ -1,3 +1,4 @@
 pub mod Reading
 pub mod Results
+pub mod Numbers
 pub mod Finishing
