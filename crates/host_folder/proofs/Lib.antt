@@ -4,3 +4,4 @@ pub mod Reading
 pub mod Ascii
 pub mod Outcomes
 pub mod Spans
+pub mod Shelving

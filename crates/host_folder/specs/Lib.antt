@@ -1,4 +1,5 @@
 pub mod Reading
 pub mod Results
 pub mod Numbers
+pub mod Shelves
 pub mod Finishing
