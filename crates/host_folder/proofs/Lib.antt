@@ -5,3 +5,4 @@ pub mod Ascii
 pub mod Outcomes
 pub mod Spans
 pub mod Shelving
+pub mod Paths

@@ -1,5 +1,6 @@
 pub mod Reading
 pub mod Results
 pub mod Numbers
+pub mod Paths
 pub mod Shelves
 pub mod Finishing

@@ -1,4 +1,6 @@
 // The folder in which a host works.
+ghost use Rattle.std.specs.Prelude.{◌≡◌, IfOk, string_bytes};
+ghost use Rattle.host_folder.specs.Paths.{journal_path, term_path};
 
 mod finding;
 
@@ -78,17 +80,26 @@ impl Folder {
     }
 
     /// The file of a tenant's history in a term.
-    pub fn dump(&self, alloc: Global, name: &str, term: u64) -> Result<String, AllocError> {
+    pub fn dump(&self, alloc: Global, name: &str, term: u64) -> Result<String, AllocError>
+        ensures { IfOk result (λ path. string_bytes path
+            ≡ term_path (string_bytes self.now.dumps) name.now term) }
+    {
         format!(in alloc; "{}/{name}.{term:06}.jsonl", self.dumps.as_str())
     }
 
     /// The file of the outcomes of a tenant's jobs in a term.
-    fn result(&self, alloc: Global, name: &str, term: u64) -> Result<String, AllocError> {
+    fn result(&self, alloc: Global, name: &str, term: u64) -> Result<String, AllocError>
+        ensures { IfOk result (λ path. string_bytes path
+            ≡ term_path (string_bytes self.now.results) name.now term) }
+    {
         format!(in alloc; "{}/{name}.{term:06}.jsonl", self.results.as_str())
     }
 
     /// The file in which a tenant notes what it forgets while that term is its newest.
-    pub fn forgotten(&self, alloc: Global, name: &str, term: u64) -> Result<String, AllocError> {
+    pub fn forgotten(&self, alloc: Global, name: &str, term: u64) -> Result<String, AllocError>
+        ensures { IfOk result (λ path. string_bytes path
+            ≡ term_path (string_bytes self.now.notes) name.now term) }
+    {
         format!(in alloc; "{}/{name}.{term:06}.jsonl", self.notes.as_str())
     }
 
@@ -99,7 +110,10 @@ impl Folder {
         name: &str,
         term: u64,
         base: u64,
-    ) -> Result<String, AllocError> {
+    ) -> Result<String, AllocError>
+        ensures { IfOk result (λ path. string_bytes path
+            ≡ journal_path (string_bytes self.now.journals) name.now term base) }
+    {
         format!(in alloc; "{}/{name}.{term:06}.{base}.jsonl", self.journals.as_str())
     }
 

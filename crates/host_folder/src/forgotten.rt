@@ -83,7 +83,7 @@ pub fn read_notes<R: Files<File = File> + AllocGlobal + Clone + Drop>(
 ) -> Result<Forgotten, ServerFault> {
     let mut forgotten = Forgotten::new(alloc);
     for entry in &listed(rt, folder.notes.as_str())? {
-        if has_name(entry.as_str(), name) {
+        if has_name(folder.notes.as_str(), entry.as_str(), name) {
             match bytes_of(rt, alloc, entry.as_str()) {
                 Ok(text) => forgotten.add(text.as_slice())?,
                 Err(fault) => return Err(ServerFault::of_system(fault)),
@@ -94,8 +94,8 @@ pub fn read_notes<R: Files<File = File> + AllocGlobal + Clone + Drop>(
 }
 
 /// Whether a path is that of a tenant's notes.
-fn has_name(path: &str, name: &str) -> bool {
-    match parts_of(path) {
+fn has_name(folder: &str, path: &str, name: &str) -> bool {
+    match parts_of(folder, path) {
         Some((known, _)) => known == name,
         None => false,
     }
@@ -110,7 +110,7 @@ pub fn remove_old_notes<R: Files + AllocGlobal + Clone + Drop>(
 ) -> Result<(), ServerFault> {
     for entry in &listed(rt, folder.notes.as_str())? {
         let path = entry.as_str();
-        if let Some((name, term)) = parts_of(path) {
+        if let Some((name, term)) = parts_of(folder.notes.as_str(), path) {
             if !shelves.numbers(name).iter().any(|dumped| *dumped <= term) {
                 // It is tried again at the next start if it can't be removed now.
                 let _ = fs::remove_file(rt, path);

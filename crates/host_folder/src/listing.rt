@@ -1,5 +1,8 @@
 // The names in the folders of a host.
+ghost use Rattle.std.specs.Prelude.{option_map};
+ghost use Rattle.host_folder.specs.Paths.{FindsTerm};
 
+use crate::words::after;
 use job_language::TenantName;
 use server_io::ServerFault;
 use std::fs::Files;
@@ -38,12 +41,15 @@ pub(crate) fn is_part(path: &str) -> bool {
     }
 }
 
-/// The name of the tenant and the number of the term of a dump's path.
-pub(crate) fn parts_of(path: &str) -> Option<(&str, u64)> {
-    let (_, file) = path.rsplit_once('/')?;
-    let (name, rest) = file.split_once('.')?;
-    let number = rest.strip_suffix(".jsonl")?;
-    Some((name, number.parse::<u64>().ok()?))
+/// The name of the tenant and the number of the term of a file in a folder, if it has those of one.
+pub(crate) fn parts_of<'a>(folder: &str, path: &'a str) -> Option<(&'a str, u64)>
+    ensures { FindsTerm folder.now path.now (option_map (λ parts. (parts.0.now, parts.1)) result) }
+{
+    let rest = after(path, folder)?;
+    let file = after(rest, "/")?;
+    let (name, end) = file.split_once('.')?;
+    let digits = end.strip_suffix(".jsonl")?;
+    Some((name, digits.parse::<u64>().ok()?))
 }
 
 /// The name of the tenant, the number of the term and the base of its jobs' numbers of a journal's path.

@@ -1,4 +1,6 @@
 // What a host finds in its folder when it begins.
+ghost use Rattle.std.specs.Prelude.{option_map, IfOk, string_bytes};
+ghost use Rattle.host_folder.specs.Paths.{IsTermOf};
 
 use super::Folder;
 use crate::listing::{is_part, journal_in, listed, parts_of};
@@ -56,8 +58,10 @@ impl Folder {
                 // It is tried again at the next start if it can't be removed now.
                 let _ = fs::remove_file(rt, path);
             }
-            if let Some((name, number)) = parts_of(path) {
-                self.sort_in(rt, &mut shelves, path, name, number, keep)?;
+            if let Some((name, number)) = self.dump_in(rt.alloc(), path)? {
+                if number < MOST_TERMS {
+                    self.shelve(rt, rt.alloc(), &mut shelves, name, number, keep)?;
+                }
             }
         }
         Ok(shelves)
@@ -87,22 +91,23 @@ impl Folder {
         Ok(journals)
     }
 
-    /// Notes a path if it is the one of a dump, and removes the tenant's dump that is too old then.
-    fn sort_in<R: Files + AllocGlobal>(
+    /// The tenant's name and the number of the term whose dump a path is. None if it is that of none.
+    fn dump_in<'a>(
         &self,
-        rt: &R,
-        shelves: &mut Shelves,
-        path: &str,
-        name: &str,
-        number: u64,
-        keep: u32,
-    ) -> Result<(), AllocError> {
-        let dump = self.dump(rt.alloc(), name, number)?;
-        let is_dump = dump.as_str() == path && TenantName::new(name).is_some();
-        if is_dump && number < MOST_TERMS {
-            self.shelve(rt, rt.alloc(), shelves, name, number, keep)?;
+        alloc: Global,
+        path: &'a str,
+    ) -> Result<Option<(&'a str, u64)>, AllocError>
+        ensures { IfOk result (λ found. IsTermOf (string_bytes self.now.dumps) path.now
+            (option_map (λ parts. (parts.0.now, parts.1)) found)) }
+    {
+        let Some((name, number)) = parts_of(self.dumps.as_str(), path) else {
+            return Ok(None);
+        };
+        if TenantName::new(name).is_some() && self.dump(alloc, name, number)?.as_str() == path {
+            Ok(Some((name, number)))
+        } else {
+            Ok(None)
         }
-        Ok(())
     }
 
     /// Notes that a tenant's dump of a term is there, and removes the one that is too old then, with its outcomes: of

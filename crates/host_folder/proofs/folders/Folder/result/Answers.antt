@@ -1,0 +1,13 @@
+use Rattle.std.proofs.Common.{◌≡◌, ◌++◌, List, ℕ, [], false, IfOk, codes, string_bytes, subst}
+use Rattle.std.specs.Fmt.{decimal, format_spec, padded_integral}
+use Rattle.host_folder.proofs.Paths.{term_written}
+use Rattle.host_folder.proofs.folders.Folder.result.Goals as goal
+
+pub returns : goal.returns
+returns c =
+    let front : List ℕ = c.as_str.result.now in
+    let name : List ℕ = c.args.name.now in
+    let written = λ (ds : List ℕ). front ++ (codes "/" ++ (name ++ (codes "." ++ (ds ++ codes ".jsonl")))) in
+    let h : IfOk c.format.result (λ s. string_bytes s ≡ written (padded_integral (format_spec 32 0 4 6 18446744073709551615) false [] (decimal c.args.term))) =
+    rw c.laid_out.ensures at c.format.ensures.ok in
+    subst (λ (bs : List ℕ). IfOk c.format.result (λ s. string_bytes s ≡ bs)) (term_written (string_bytes c.args.self.now.results) front name c.args.term c.as_str.ensures.value) h
