@@ -1,7 +1,8 @@
 #!/usr/bin/env python3
 """Compares arena-compile with the compiler in Python, and both with the interpreter of checks/python, which was written from
 docs/LANGUAGE.md alone, on drawn sources, and on some with numbers, bits, loops that count, constants, calls, tasks, groups, cells,
-inline functions, parallel loops, calls inside values, widths, broken lines, `min`, `max` and `abs`, statuses, and names that hide others, at their edges: what both make is rehearsed on drawn schedules, and what `arena-compile --serial` prints must
+inline functions, parallel loops, calls inside values, widths, broken lines, `min`, `max` and `abs`, statuses, names that hide others, and
+params that are given numbers, at their edges: what both make is rehearsed on drawn schedules, and what `arena-compile --serial` prints must
 be the line of the interpreter's value. Of the examples in examples/jobs those that it takes must give what they say. Sources with
 faults must be refused at the first one. The last line says how many.
 
@@ -15,8 +16,9 @@ import re
 import subprocess
 import sys
 from collections import Counter
-from collections.abc import Mapping
+from collections.abc import Mapping, Sequence
 from dataclasses import dataclass
+from types import MappingProxyType
 
 TOP = pathlib.Path(__file__).resolve().parents[2]
 sys.path[:0] = [str(TOP / "checks" / "python"), str(TOP / "checks" / "build"), str(TOP / "python")]
@@ -34,6 +36,7 @@ from arena.language.examples import examples_of, unit_of  # noqa: E402
 from arena.replies import Complete, Fault, FaultCode  # noqa: E402
 from arena.trace.rehearsal import rehearse  # noqa: E402
 from fitting_sources import CROWDED, FITTING  # noqa: E402
+from giving_sources import GIVING, given_in, given_to  # noqa: E402
 from group_sources import GROUPS  # noqa: E402
 from hiding_sources import HIDING  # noqa: E402
 from inline_sources import INLINES  # noqa: E402
@@ -72,6 +75,19 @@ REPLIES = (
     ("fn main(n) { return m }\n", ("--serial", 12), 1, ("", "1:21")),
     ("fn main(n) { return n }\n", ("--serial", 1, 2, 3), 2, ("", "arena-compile")),
     ("fn main(n) { return n }\n", (12, "--serial"), 2, ("", "arena-compile")),
+    ("param N = 3\nfn main(n) { return n * N }\n", ("--serial", "-D", "N=-7", 6), 0, ('{"job":1,"status":"complete","value":-42}\n', "")),
+    ("param N = 3\nfn main(n) { return n * N }\n", ("--serial", 6, "-D", "N=4", "-D", "N=5"), 0, ('{"job":1,"status":"complete","value":30}\n', "")),
+    ("param N = 3\nfn main(n) { return N }\n", ("--serial", "-D", "N=-9223372036854775808"), 0, ('{"job":1,"status":"complete","value":-9223372036854775808}\n', "")),
+    ("# no\nparam N = 3\nconst M = 1\nfn main(n) { return N }\n", ("-D", "M=4"), 1, ("", "2:1")),
+    ("param N = 3\nfn main(n) { return N }\n", ("-D", "N=4", "-D", "n=4"), 1, ("", "1:1")),
+    ("param N = 3\nfn main(n) { return N }\n", ("-D", "NN=4"), 1, ("", "1:1")),
+    ("param N = M\nfn main(n) { return N }\n", ("-D", "N=4"), 1, ("", "1:11")),
+    ("fn main(n) { return n }\nparam N = 3\n", ("-D", "N=4"), 1, ("", "2:1")),
+    ("param N = 3\nfn main(n) { return N }\n", ("-D", "N=x"), 2, ("", "arena-compile")),
+    ("param N = 3\nfn main(n) { return N }\n", ("-D", "N=9223372036854775808"), 2, ("", "arena-compile")),
+    ("param N = 3\nfn main(n) { return N }\n", ("-D", "N"), 2, ("", "arena-compile")),
+    ("param N = 3\nfn main(n) { return N }\n", ("-D", "=4"), 2, ("", "arena-compile")),
+    ("param N = 3\nfn main(n) { return N }\n", (1, "-D"), 2, ("", "arena-compile")),
 )
 """Sources, the words for arena-compile, its status, its output, and standard error up to a colon and a space."""
 
@@ -79,7 +95,7 @@ TAKEN = {"divisors.job", "fib.job", "hash.job", "keeper.job", "longest.job", "pa
          "serial.job", "sum.job"}
 """The examples that arena-compile takes."""
 
-MOST_FUEL = 1.3
+MOST_FUEL = 1.31
 """How many times the fuel of the job by the compiler in Python one by arena-compile may use, for the examples, on one slot."""
 
 HEAD = re.compile(r"^fn |\bp(?:sum|min|max) ")
@@ -93,6 +109,9 @@ FEWEST = {"complete": 0.4, "fault": 0.01}
 
 BREAKING = 0.3
 """Of which share of the programs some lines are broken."""
+
+GIVEN = 0.5
+"""In which share of the programs params are given numbers."""
 
 MOST_CROWDED = 0.05
 """Which share of the programs may be refused for registers."""
@@ -132,24 +151,25 @@ def ended(job: object, draws: random.Random) -> Ended:
             return Ended(str(other), cells)
 
 
-def of_python(source: str, arguments: tuple[int, int], draws: random.Random) -> Ended | str:
+def of_python(source: str, arguments: tuple[int, int], draws: random.Random, givens: Mapping[str, int] = MappingProxyType({})) -> Ended | str:
     """What the job of the compiler in Python gives, or that it needs too many registers."""
     try:
-        return ended(compile_source(source, args=arguments).job.to_value(), draws)
+        return ended(compile_source(source, parameters=givens, args=arguments).job.to_value(), draws)
     except SourceFault as fault:
         return next((kind for words, kind in LIMITS.items() if words in fault.message), f"refused: {fault}")
 
 
 def difference(program: str, source: str, arguments: tuple[int, int], draws: random.Random, seen: Counter[str],
-               cells: Mapping[int, int] | None = None) -> str:
-    """What is wrong with a source, if something is. What the cells sum up to in the end is compared with these, or else with what
-    they do by the compiler in Python."""
+               cells: Mapping[int, int] | None = None, givens: Mapping[str, int] = MappingProxyType({})) -> str:
+    """What is wrong with a source whose params are given these numbers, if something is. What the cells sum up to in the end is
+    compared with these, or else with what they do by the compiler in Python."""
     try:
-        wanted = interpreted(CANCELS.sub("", source), arguments)
+        wanted = interpreted(CANCELS.sub("", given_in(source, givens)), arguments)
     except TooLong:
         seen["too long"] += 1
         return ""
-    status, output, said = compiled(program, source, *arguments)
+    words = [*(word for name, number in givens.items() for word in ("-D", f"{name}={number}")), *arguments]
+    status, output, said = compiled(program, source, *words)
     heads = [f"{number}:{it.start() + 1}" for number, line in enumerate(source.splitlines(), 1) for it in HEAD.finditer(line)]
     limit = next((kind for head in heads for words, kind in LIMITS.items() if status == 1 and said == f"{head}: {words}\n"), "")
     if status == 1 and "inline fn" in source and said.endswith(TOO_LONG):
@@ -158,21 +178,21 @@ def difference(program: str, source: str, arguments: tuple[int, int], draws: ran
         seen[limit] += 1
         return ""
     if status != 0:
-        return f"status {status}: {said}, of arguments {arguments}:\n{source}"
-    found, python = ended(json.loads(output), draws), of_python(source, arguments, draws)
+        return f"status {status}: {said}, of {words}:\n{source}"
+    found, python = ended(json.loads(output), draws), of_python(source, arguments, draws, givens)
     seen["fault" if wanted is None else "complete"] += 1
     if cells is None:
         cells = python.cells if isinstance(python, Ended) else found.cells
     if found != Ended(wanted, cells) or python not in (found, *LIMITS.values()):
-        return f"{found}, in Python {python}, and not {wanted} with {cells}, of arguments {arguments}:\n{source}"
-    return serial_difference(program, source, arguments, reply_of(wanted) if Job.from_value(json.loads(output)).is_serial() else "")
+        return f"{found}, in Python {python}, and not {wanted} with {cells}, of {words}:\n{source}"
+    return serial_difference(program, source, words, reply_of(wanted) if Job.from_value(json.loads(output)).is_serial() else "")
 
 
-def serial_difference(program: str, source: str, arguments: tuple[int, int], wanted: str) -> str:
+def serial_difference(program: str, source: str, words: Sequence[object], wanted: str) -> str:
     """What is wrong with what --serial prints, if something is. Without a line that is wanted the source is refused."""
-    status, output, said = compiled(program, source, "--serial", *arguments)
+    status, output, said = compiled(program, source, "--serial", *words)
     if (status, output, said.split(": ")[0]) != ((0, wanted, "") if wanted else (1, "", "1:1")):
-        return f"status {status}, {said or output} for --serial, and not {wanted}, of arguments {arguments}:\n{source}"
+        return f"status {status}, {said or output} for --serial, and not {wanted}, of {words}:\n{source}"
     return ""
 
 
@@ -202,8 +222,9 @@ def example_differences(program: str, draws: random.Random) -> list[str]:
     for file in sorted((TOP / "examples" / "jobs").glob("*.job")):
         source = file.read_text()
         for example in examples_of(source):
-            status, output, _ = compiled(program, source, *example.args)
-            if status or example.parameters:
+            givens = [word for name, number in example.parameters.items() for word in ("-D", f"{name}={number}")]
+            status, output, _ = compiled(program, source, *givens, *example.args)
+            if status:
                 continue
             taken.add(file.name)
             keys = unit_of(source).cells
@@ -211,7 +232,7 @@ def example_differences(program: str, draws: random.Random) -> list[str]:
             sums = {cell: given.cells.get(keys[cell], 0) for cell in example.cells}
             if (given.value, sums) != (example.value, example.cells):
                 found.append(f"{file.name}: {given} and not as in {example.text}")
-            found += too_much_fuel(file.name, json.loads(output), compile_source(source, args=example.args).job)
+            found += too_much_fuel(file.name, json.loads(output), compile_source(source, parameters=example.parameters, args=example.args).job)
     return [*found, *(f"{it} is taken, or not any more" for it in sorted(taken ^ TAKEN))]
 
 
@@ -245,12 +266,14 @@ def main(seed: int = 1, programs: int = 400) -> list[str]:
     for _ in range(programs):
         source = sources.source()
         source, arguments = broken(source, draws) if draws.random() < BREAKING else source, (draws.randint(-5, 9), draws.randint(-5, 9))
-        said = difference(program, source, arguments, draws, seen)
+        givens = given_to(source, draws) if draws.random() < GIVEN else {}
+        said = difference(program, source, arguments, draws, seen, givens=givens)
         found += [said] if said else []
     found += [said for source, arguments in (*BITS, *COUNTING, *CALLING, *WAITING, *GROUPS, *INLINES, *PARALLEL, *ASKING, *WIDTHS, *BROKEN, *BUILT_IN, *STATUSES, *HIDING) if (said := difference(program, source, arguments, draws, Counter()))]
     shared = [drawn_source(draws) for _ in range(max(1, programs // 8))]
     found += [said for source, arguments in shared if (said := difference(program, source, arguments, draws, Counter()))]
     found += [said for source, arguments in (*PACKED, *FURTHER, *CANCELED) if (said := packed_difference(program, source, arguments, draws))]
+    found += [said for source, arguments, givens in GIVING if (said := difference(program, source, arguments, draws, Counter(), givens=givens))]
     found += [said for source, arguments, cells in SHARING if (said := difference(program, source, arguments, draws, Counter(), cells))]
     found += [said for source, arguments in FITTING if (said := fitting_difference(program, source, arguments, draws))]
     found += [said for source in CROWDED if (said := crowded_difference(program, source))]
@@ -267,7 +290,7 @@ def main(seed: int = 1, programs: int = 400) -> list[str]:
         print(f"too many programs are refused for registers: {seen['registers']}")
     shown = ", ".join(f"{count} {kind}" for kind, count in sorted(seen.items()))
     print(f"{programs} sources by two compilers ({shown}), {len(BITS)} with bits, {len(COUNTING)} that count, {len(CALLING)} that call, "
-          f"{len(WAITING)} that wait, {len(GROUPS)} with groups, {len(INLINES)} with inline functions, {len(PARALLEL)} with parallel loops, {len(ASKING)} with calls and the like inside values, {len(WIDTHS) + len(PACKED) + len(shared)} with widths, {len(BROKEN) + len(FURTHER)} with broken lines, {len(BUILT_IN)} with min, max and abs, {len(STATUSES) + len(CANCELED)} with statuses, {len(HIDING)} that hide names, {len(SHARING)} that share, {len(FITTING)} that just fit, {len(TAKEN)} of the examples, {len(REFUSED)} refused: {len(found)} differences")
+          f"{len(WAITING)} that wait, {len(GROUPS)} with groups, {len(INLINES)} with inline functions, {len(PARALLEL)} with parallel loops, {len(ASKING)} with calls and the like inside values, {len(WIDTHS) + len(PACKED) + len(shared)} with widths, {len(BROKEN) + len(FURTHER)} with broken lines, {len(BUILT_IN)} with min, max and abs, {len(STATUSES) + len(CANCELED)} with statuses, {len(HIDING)} that hide names, {len(GIVING)} whose params are given numbers, {len(SHARING)} that share, {len(FITTING)} that just fit, {len(TAKEN)} of the examples, {len(REFUSED)} refused: {len(found)} differences")
     return found or rare
 
 

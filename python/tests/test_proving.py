@@ -13,14 +13,14 @@ from arena.command.proving import proved
 class Proving(unittest.TestCase):
     """A stand-in for arena-compile, as ARENA_COMPILE names it."""
 
-    def said(self, script: str) -> tuple[str | None, str]:
-        """The line that a stand-in gives for arguments 3 and -1, and which compiler is named for it."""
+    def said(self, script: str, *parameters: tuple[str, int]) -> tuple[str | None, str]:
+        """The line that a stand-in gives for arguments 3 and -1 and these params, and which compiler is named for it."""
         with tempfile.TemporaryDirectory() as room:
             program = pathlib.Path(room, "arena-compile")
             program.write_text(f"#!/bin/sh\n{script}\n")
             program.chmod(0o755)
             with mock.patch.dict(os.environ, {"ARENA_COMPILE": str(program)}):
-                found = proved("fn main(n) { }\n", (3, -1))
+                found = proved("fn main(n) { }\n", (3, -1), parameters)
             assert found is not None
             return found.line, found.told("f.job").replace(str(program), "PROGRAM")
 
@@ -28,6 +28,10 @@ class Proving(unittest.TestCase):
         """The program gets the source and the arguments."""
         self.assertEqual(self.said('read -r line; echo "$1 $2 $line"'),
                          ("3 -1 fn main(n) { }", "f.job: compiled by PROGRAM"))
+
+    def test_params_are_given_before_the_arguments(self) -> None:
+        """The program gets them in their order."""
+        self.assertEqual(self.said('echo "$*"', ("N", 8), ("M", -1))[0], "-D N=8 -D M=-1 3 -1")
 
     def test_a_refused_source_is_compiled_in_python(self) -> None:
         """Its fault is said."""
@@ -45,14 +49,14 @@ class Building(unittest.TestCase):
 
     JOB = '{"args":[3,-1],"fuel":1000000,"procs":[[["sub",0,1,0],["ret",0]]]}'
 
-    def built(self, *words: str) -> tuple[str, str]:
+    def built(self, *words: str, source: str = "fn main(a, b) { return a + b }\n") -> tuple[str, str]:
         """What `arena build` prints with these words, and its standard error without the program's path."""
         with tempfile.TemporaryDirectory() as room:
-            program, source = pathlib.Path(room, "arena-compile"), pathlib.Path(room, "f.job")
+            program, file = pathlib.Path(room, "arena-compile"), pathlib.Path(room, "f.job")
             program.write_text(f"#!/bin/sh\necho '{self.JOB}'\n")
             program.chmod(0o755)
-            source.write_text("fn main(a, b) { return a + b }\n")
-            done = subprocess.run([sys.executable, "-m", "arena", "build", str(source), "--args", "3", "-1", *words],
+            file.write_text(source)
+            done = subprocess.run([sys.executable, "-m", "arena", "build", str(file), "--args", "3", "-1", *words],
                                   capture_output=True, text=True, env={**os.environ, "ARENA_COMPILE": str(program)})
             self.assertEqual(done.returncode, 0)
             return done.stdout.strip(), done.stderr.strip().replace(f"{room}/", "")
@@ -63,6 +67,11 @@ class Building(unittest.TestCase):
         listing, said = self.built("-S")
         self.assertEqual(said, "f.job: compiled by arena-compile")
         self.assertIn("sub     r0 r1 r0", listing)
+
+    def test_params_are_given_to_both(self) -> None:
+        """The job is still that of the proved compiler."""
+        source = "param N = 4\nfn main(a, b) { return a + N }\n"
+        self.assertEqual(self.built("-D", "N=5", source=source), (self.JOB, "f.job: compiled by arena-compile"))
 
     def test_python_builds_what_the_map_is_of(self) -> None:
         """With --python the job, its listing and its map are of the compiler in Python, and nothing is said."""

@@ -2,6 +2,7 @@
 use Rattle.std.proofs.Common.{ℕ, List, Option, Some, None}
 use Rattle.std.specs.Prelude.{IsSomeAnd, slice_get}
 use Rattle.source_language.specs.declared.syntax.Function.{Function}
+use Rattle.source_tokens.specs.Givens.{Givens}
 use Rattle.source_reader.specs.declared.places.Place.{Place}
 use Rattle.arena_compile.specs.Jobs.{HasFunctionAt}
 
@@ -9,8 +10,8 @@ if_some : (P Q : Function → Type 0) → ((f : Function) → P f → Q f) → (
 if_some P Q h None has = has
 if_some P Q h (Some f) has = h f has
 
-pub has_too : (text : List ℕ) (place : Place) (P Q : Function → Type 0) → ((f : Function) → P f → Q f) → HasFunctionAt text place P → HasFunctionAt text place Q
-has_too text place P Q h at = record {
+pub has_too : (gs : Givens) (text : List ℕ) (place : Place) (P Q : Function → Type 0) → ((f : Function) → P f → Q f) → HasFunctionAt gs text place P → HasFunctionAt gs text place Q
+has_too gs text place P Q h at = record {
   functions = at.functions;
   said = at.said;
   number = at.number;

@@ -1,6 +1,7 @@
 // Why a source makes no job, in words.
 ghost use Rattle.std.specs.Prelude.{ℕ, List};
 ghost use Rattle.register_choice.specs.Refusals.{IsWithoutChoice};
+ghost use Rattle.source_tokens.specs.Givens.{Givens};
 ghost use Rattle.arena_compile.specs.Jobs.{HasFunctionAt, IsFaultOf};
 
 use register_choice::ChoiceRefusal;
@@ -60,14 +61,8 @@ fn words_of(wrong: Wrong) -> &'static str {
         Wrong::KnownName => "something else has this name already",
         Wrong::TooManyNames => "a function has at most 240 variables",
         Wrong::NotAssigned => "only variables and cells are assigned to, and no index of a loop",
-        Wrong::NoConstant => "the value of a constant is made of numbers and of constants above it",
         Wrong::NoStep => "a step is a constant that is not 0, and of a `psum` 1 to 1048576",
         Wrong::NoGrain => "the grain of a parallel loop is a constant from 1",
-        Wrong::LateItem => "constants and cells stand first, then inline functions, then others",
-        Wrong::TooManyItems => "at most 100 of these are taken",
-        Wrong::WrongKey => "the key of a cell is a number from 0 to 7",
-        Wrong::KnownKey => "another cell has this key",
-        Wrong::TooManyCells => "no key is left for this cell: there are 8",
         Wrong::CellValue => "a cell is read alone: write `let x = c.local` before this",
         Wrong::SkippedDivision =>
             "`&&` or `||` may skip a division here: write `let x = ..` with it before this",
@@ -92,6 +87,20 @@ fn words_of(wrong: Wrong) -> &'static str {
             "no group is left: wait for a task before, since there are 4, and a call needs one",
         Wrong::TooManyFunctions => "a job has at most 16 functions, and each parallel loop is one",
         Wrong::NoFunction => "there is no fn: write `fn main(x, y) { .. }`",
+        _ => words_of_items(wrong),
+    }
+}
+
+/// What is wrong with constants and cells.
+fn words_of_items(wrong: Wrong) -> &'static str {
+    match wrong {
+        Wrong::NoConstant => "the value of a constant is made of numbers and of constants above it",
+        Wrong::NoParam => "a name that is given a number is not that of a `param` here",
+        Wrong::LateItem => "constants and cells stand first, then inline functions, then others",
+        Wrong::TooManyItems => "at most 100 of these are taken",
+        Wrong::WrongKey => "the key of a cell is a number from 0 to 7",
+        Wrong::KnownKey => "another cell has this key",
+        Wrong::TooManyCells => "no key is left for this cell: there are 8",
         _ => words_of_parameters(wrong),
     }
 }
@@ -112,8 +121,8 @@ fn words_of_parameters(wrong: Wrong) -> &'static str {
 
 /// The fault of a function that begins there.
 pub(crate) fn fault_of(refusal: ChoiceRefusal, place: Place) -> CompileFault
-    ensures { (text : List ℕ) → HasFunctionAt text place (λ f. IsWithoutChoice f refusal)
-        → IsFaultOf text result }
+    ensures { (gs : Givens) (text : List ℕ) → HasFunctionAt gs text place (λ f. IsWithoutChoice f refusal)
+        → IsFaultOf gs text result }
 {
     match refusal {
         ChoiceRefusal::Refused(_) => CompileFault::TooLong(place),

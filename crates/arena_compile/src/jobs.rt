@@ -2,6 +2,7 @@
 ghost use Rattle.std.specs.Prelude.{◌≡◌, List, IfOk, IfErr, map};
 ghost use Rattle.source_language.specs.declared.syntax.Function.{Function};
 ghost use Rattle.register_choice.specs.Programs.{IsNoProgram};
+ghost use Rattle.source_tokens.specs.Givens.{Givens, view_given};
 ghost use Rattle.source_reader.specs.Source.{Says};
 ghost use Rattle.source_reader.specs.Trees.{function_tree_of};
 ghost use Rattle.job_compiler.specs.Programs.{IsCompiledProgram};
@@ -12,15 +13,22 @@ use job_language::{Fuel, Job, MAX_FUEL, Program};
 use register_choice::{ChoiceProgramError, compile_program};
 use source_language::Function;
 use source_reader::{SourceError, function_place, read_source};
+use source_tokens::Given;
 use std::alloc::Global;
 
-/// The job of a source with these arguments, and with all the fuel that a job may have.
-pub fn job_of(alloc: Global, args: [i64; 2], text: &[u8]) -> Result<Job, CompileError>
-    ensures made { IfOk result (IsJobOf args text.now) }
-    ensures refused { IfErr result (IsErrorOf text.now) }
+/// The job of a source with these arguments, and with all the fuel that a job may have. Its params have the numbers that
+/// they are given.
+pub fn job_of(
+    alloc: Global,
+    args: [i64; 2],
+    givens: &[Given],
+    text: &[u8],
+) -> Result<Job, CompileError>
+    ensures made { IfOk result (IsJobOf args (map view_given givens.now) text.now) }
+    ensures refused { IfErr result (IsErrorOf (map view_given givens.now) text.now) }
 {
-    match read_source(alloc, text) {
-        Ok(mut functions) => job_with(alloc, args, text, functions.as_mut_slice()),
+    match read_source(alloc, givens, text) {
+        Ok(mut functions) => job_with(alloc, args, givens, text, functions.as_mut_slice()),
         Err(SourceError::Memory) => Err(CompileError::Memory),
         Err(SourceError::Fault(fault)) => Err(CompileError::Fault(CompileFault::Source(fault))),
     }
@@ -30,14 +38,15 @@ pub fn job_of(alloc: Global, args: [i64; 2], text: &[u8]) -> Result<Job, Compile
 fn job_with(
     alloc: Global,
     args: [i64; 2],
+    givens: &[Given],
     text: &[u8],
     functions: &mut [Function],
 ) -> Result<Job, CompileError>
-    requires { Says text.now (map function_tree_of functions.old) }
-    ensures made { IfOk result (IsJobOf args text.now) }
-    ensures refused { IfErr result (IsErrorOf text.now) }
+    requires { Says (map view_given givens.now) text.now (map function_tree_of functions.old) }
+    ensures made { IfOk result (IsJobOf args (map view_given givens.now) text.now) }
+    ensures refused { IfErr result (IsErrorOf (map view_given givens.now) text.now) }
 {
-    let program = program_of(alloc, functions, text)?;
+    let program = program_of(alloc, functions, givens, text)?;
     let fuel = most_fuel();
     Ok(Job {
         program,
@@ -57,11 +66,12 @@ fn most_fuel() -> Fuel
 fn program_of(
     alloc: Global,
     functions: &mut [Function],
+    _givens: &[Given],
     text: &[u8],
 ) -> Result<Program, CompileError>
-    requires { Says text.now (map function_tree_of functions.old) }
+    requires { Says (map view_given _givens.now) text.now (map function_tree_of functions.old) }
     ensures compiled { IfOk result (IsCompiledProgram functions.old) }
-    ensures refused { IfErr result (IsErrorOf text.now) }
+    ensures refused { IfErr result (IsErrorOf (map view_given _givens.now) text.now) }
 {
     match compile_program(alloc, functions) {
         Ok(program) => Ok(program),
@@ -71,8 +81,8 @@ fn program_of(
 
 /// Why functions that a text says make no program, with the place of the one that is refused.
 fn error_of(alloc: Global, error: ChoiceProgramError, text: &[u8]) -> CompileError
-    ensures { (functions : List Function) → Says text.now (map function_tree_of functions)
-        → IsNoProgram functions error → IsErrorOf text.now result }
+    ensures { (gs : Givens) (functions : List Function) → Says gs text.now (map function_tree_of functions)
+        → IsNoProgram functions error → IsErrorOf gs text.now result }
 {
     match error {
         ChoiceProgramError::NoMemory => CompileError::Memory,

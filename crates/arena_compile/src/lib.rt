@@ -9,4 +9,4 @@ mod words;
 pub use errors::{CompileError, CompileFault};
 pub use jobs::job_of;
 pub use lines::job_line;
-pub use words::args_in;
+pub use words::{args_in, given_in};

@@ -2,9 +2,10 @@
 //! which a tenant replies when it has executed that job.
 #![tactic(auto)]
 
-use arena_compile::{CompileError, CompileFault, args_in, job_line};
+use arena_compile::{CompileError, CompileFault, args_in, given_in, job_line};
 use job_language::{Fuel, MAX_FUEL};
 use program_version::{asks_version, print_version};
+use source_tokens::Given;
 use source_value::{SourceError, lone_tenant, reply_line_of_source};
 use std::env::Env;
 use std::io::{ErrorKind, Read, Write};
@@ -49,11 +50,41 @@ fn run<R: Env + Input + Print + AllocGlobal>(rt: &R) -> Result<(), Stop> {
     }
 }
 
-/// Prints the job of the source on standard input, with the arguments that the words are.
+/// What the words say.
+#[derive(Drop)]
+struct Said<'a> {
+    /// The numbers that params are given, each behind `-D`.
+    givens: Vec<Given<'a>>,
+    args: [i64; 2],
+}
+
+fn said_by<'a, R: AllocGlobal>(rt: &R, words: &[&'a str]) -> Result<Said<'a>, Stop> {
+    let mut givens = Vec::new(rt.alloc());
+    let mut numbers = Vec::new(rt.alloc());
+    let mut gives = false;
+    for word in words {
+        if gives {
+            let given = given_in(*word).ok_or(Stop::Words)?;
+            givens.push(given).map_err(|_fault| Stop::Memory)?;
+            gives = false;
+        } else if *word == "-D" {
+            gives = true;
+        } else {
+            numbers.push(*word).map_err(|_fault| Stop::Memory)?;
+        }
+    }
+    if gives {
+        return Err(Stop::Words);
+    }
+    let args = args_in(numbers.as_slice()).ok_or(Stop::Words)?;
+    Ok(Said { givens, args })
+}
+
+/// Prints the job of the source on standard input, by what the words say.
 fn print_job<R: Input + Print + AllocGlobal>(rt: &R, words: &[&str]) -> Result<(), Stop> {
-    let args = args_in(words).ok_or(Stop::Words)?;
+    let Said { givens, args } = said_by(rt, words)?;
     let text = source_of(rt)?;
-    match job_line(rt.alloc(), args, text.as_slice()) {
+    match job_line(rt.alloc(), args, givens.as_slice(), text.as_slice()) {
         Ok(line) => rt.println(line.as_str()).map_err(|_fault| Stop::Device),
         Err(CompileError::Memory) => Err(Stop::Memory),
         Err(CompileError::Fault(fault)) => Err(Stop::Fault(fault)),
@@ -62,7 +93,8 @@ fn print_job<R: Input + Print + AllocGlobal>(rt: &R, words: &[&str]) -> Result<(
 
 /// Prints what a tenant of one slot replies when it has executed that job with all fuel.
 fn print_reply<R: Input + Print + AllocGlobal>(rt: &R, words: &[&str]) -> Result<(), Stop> {
-    let [first, second] = args_in(words).ok_or(Stop::Words)?;
+    let Said { givens, args } = said_by(rt, words)?;
+    let [first, second] = args;
     let text = source_of(rt)?;
     let fuel = Fuel::new(MAX_FUEL).unwrap();
     match reply_line_of_source(
@@ -71,6 +103,7 @@ fn print_reply<R: Input + Print + AllocGlobal>(rt: &R, words: &[&str]) -> Result
         first,
         second,
         fuel,
+        givens.as_slice(),
         text.as_slice(),
     ) {
         Ok(line) => io::writer(rt)

@@ -52,6 +52,7 @@ variables_of (StoreTree k e) = 0
 abbrev pub after_fn_of : Kind → List Token → List Token → Result (List Token) Fault
 after_fn_of kind.Fn rest ts = Ok rest
 after_fn_of kind.Const rest ts = Err (fault_at ts wrong.LateItem)
+after_fn_of (kind.Param o) rest ts = Err (fault_at ts wrong.LateItem)
 after_fn_of kind.Cell rest ts = Err (fault_at ts wrong.LateItem)
 after_fn_of kind.Inline rest ts = Err (fault_at ts wrong.LateItem)
 after_fn_of k rest ts = unexpected ts

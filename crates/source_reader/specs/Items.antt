@@ -1,5 +1,5 @@
 -- Constants and cells, inline functions below them, and the functions below these.
-use Rattle.std.specs.Prelude.{ℕ, zero, suc, ℤ, Bool, true, false, List, [], ◌∷◌, drop, Result, Ok, Err, if◌then◌else◌}
+use Rattle.std.specs.Prelude.{ℕ, zero, suc, ℤ, Bool, true, false, List, [], ◌∷◌, drop, Some, Result, Ok, Err, if◌then◌else◌}
 use Rattle.source_tokens.specs.declared.tokens.Kind.{Kind}
 use Rattle.source_tokens.specs.declared.tokens.Kind.TheVariants as kind
 use Rattle.source_tokens.specs.declared.tokens.Token.{Token}
@@ -21,7 +21,7 @@ use Rattle.source_reader.specs.Parameters.{inline_at}
 use Rattle.source_reader.specs.Functions.{functions_from}
 use Rattle.source_reader.specs.Gathering.{gatherings_from}
 
--- behind `const` or `param`: the name, its value, and the tokens after it
+-- behind `const` or `param`: the name, the number in the text, and the tokens after it
 abbrev pub constant_at : Scope → List Token → Result (ℕ × ℤ × List Token) Fault
 constant_at names ts = do
   x ← free_name names ts
@@ -44,6 +44,7 @@ is_inline (t ∷ ts) = is_inline_of t.kind
 
 abbrev pub is_item_of : Kind → Bool
 is_item_of kind.Const = true
+is_item_of (kind.Param o) = true
 is_item_of kind.Cell = true
 is_item_of k = false
 
@@ -59,12 +60,22 @@ Declared = Result (ℕ × Meaning × List Token) Fault
 abbrev pub a_cell : Result (ℕ × ℕ × List Token) Fault → Declared
 a_cell r = r >>= λ c. Ok (c.0, meaning.Cell c.1, c.2)
 
-abbrev pub a_constant : Result (ℕ × ℤ × List Token) Fault → Declared
-a_constant r = r >>= λ c. Ok (c.0, meaning.Constant c.1, c.2)
+-- A `param` that is given a number has that one, and not its own.
+abbrev pub number_or_given : Kind → ℤ → ℤ
+number_or_given (kind.Param (Some z)) own = z
+number_or_given k own = own
+
+-- the number of a constant whose word is at the front
+abbrev pub number_of : List Token → (own : ℤ) → ℤ
+number_of [] own = own
+number_of (t ∷ ts) own = number_or_given t.kind own
+
+abbrev pub a_constant : List Token → Result (ℕ × ℤ × List Token) Fault → Declared
+a_constant ts r = r >>= λ c. Ok (c.0, meaning.Constant (number_of ts c.1), c.2)
 
 -- a constant or a cell, whose word is at the front
 abbrev pub declared_at : Scope → List Token → Declared
-declared_at names ts = if is_cell ts then a_cell (cell_at names (drop 1 ts)) else a_constant (constant_at names (drop 1 ts))
+declared_at names ts = if is_cell ts then a_cell (cell_at names (drop 1 ts)) else a_constant ts (constant_at names (drop 1 ts))
 
 -- reads all functions, behind constants, cells and inline functions with these names and meanings, the last one first
 abbrev pub ItemReader : Type 0

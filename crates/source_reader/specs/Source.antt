@@ -3,6 +3,7 @@ use Rattle.std.specs.Prelude.{◌≡◌, ◌==◌, ◌-◌, ℕ, Bool, false, Li
 use Rattle.std.specs.Global.{Vec}
 use Rattle.source_language.specs.declared.syntax.Function.{Function}
 use Rattle.source_tokens.specs.declared.tokens.Token.{Token}
+use Rattle.source_tokens.specs.Givens.{Givens, tokens_with, are_params}
 use Rattle.source_tokens.specs.Tokens.{tokens_of}
 use Rattle.source_reader.specs.declared.faults.Fault.{Fault}
 use Rattle.source_reader.specs.declared.faults.Wrong.TheVariants as wrong
@@ -16,6 +17,7 @@ use Rattle.source_reader.specs.Trees.{FunctionTree, function_tree_of}
 use Rattle.source_reader.specs.Names.{Functions}
 use Rattle.source_reader.specs.Headers.{begins, is_inline, gathers_of, headers_of}
 use Rattle.source_reader.specs.Items.{items_from}
+use Rattle.source_reader.specs.Lines.{after_line_ends}
 use Rattle.source_reader.specs.Places.{place_of, place_left}
 
 abbrev pub some_functions : List FunctionTree → Result (List FunctionTree) Fault
@@ -25,21 +27,28 @@ some_functions (f ∷ fs) = Ok (f ∷ fs)
 abbrev pub read_tokens : List Token → Result (List FunctionTree) Fault
 read_tokens ts = items_from ITEMS (Functions (headers_of ts)) ts >>= some_functions
 
--- The text says these functions.
-abbrev pub Says : List ℕ → List FunctionTree → Type 0
-Says text fs = read_tokens (tokens_of text) ≡ Ok fs
+-- Each name that is given a number has to be that of a `param`; else the fault is where the first line of the source begins that has tokens.
+abbrev pub read_params : Givens → (text : List ℕ) → List Token → Result (List FunctionTree) Fault
+read_params gs text ts = if are_params text gs ts then read_tokens ts else Err (fault_at (after_line_ends ts) wrong.NoParam)
+
+abbrev pub read_with : Givens → List ℕ → Result (List FunctionTree) Fault
+read_with gs text = read_params gs text (tokens_with gs text)
+
+-- The text says these functions, where params have the numbers that they are given.
+abbrev pub Says : Givens → List ℕ → List FunctionTree → Type 0
+Says gs text fs = read_with gs text ≡ Ok fs
 
 -- It says none: this is the first fault, and its place.
-abbrev pub HasFault : List ℕ → SourceFault → Type 0
-HasFault text fault = (left : ℕ) × (read_tokens (tokens_of text) ≡ Err (record { left = left; wrong = fault.wrong })) × (fault.place ≡ place_left (tokens_of text) text left)
+abbrev pub HasFault : Givens → List ℕ → SourceFault → Type 0
+HasFault gs text fault = (left : ℕ) × (read_with gs text ≡ Err (record { left = left; wrong = fault.wrong })) × (fault.place ≡ place_left (tokens_with gs text) text left)
 
-abbrev pub GivesError : List ℕ → SourceError → Type 0
-GivesError text errors.Memory = Unit {0}
-GivesError text (errors.Fault fault) = HasFault text fault
+abbrev pub GivesError : Givens → List ℕ → SourceError → Type 0
+GivesError gs text errors.Memory = Unit {0}
+GivesError gs text (errors.Fault fault) = HasFault gs text fault
 
-abbrev pub GivesSource : List ℕ → Result (Vec Function) SourceError → Type 0
-GivesSource text (Ok v) = Says text (map function_tree_of v.items)
-GivesSource text (Err e) = GivesError text e
+abbrev pub GivesSource : Givens → List ℕ → Result (Vec Function) SourceError → Type 0
+GivesSource gs text (Ok v) = Says gs text (map function_tree_of v.items)
+GivesSource gs text (Err e) = GivesError gs text e
 
 -- where the parallel loop of that number begins, or else the end
 abbrev pub nth_gathering : List Token → (number end : ℕ) → ℕ

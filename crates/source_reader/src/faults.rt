@@ -27,6 +27,8 @@ pub enum Wrong {
     NoGrain,
     /// A constant, a cell or an inline function below a function, or one of the first two below an inline function.
     LateItem,
+    /// A name that is given a number is not that of a `param`.
+    NoParam,
     /// More constants and cells than a source may have, or more inline functions.
     TooManyItems,
     /// The key of a cell is no number from 0 to 7.

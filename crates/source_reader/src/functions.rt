@@ -73,6 +73,7 @@ fn after_fn(tokens: &[Token]) -> Result<&[Token], ReadError>
         Some((first, rest)) => match first.kind {
             Kind::Fn => Ok(rest),
             Kind::Const => Err(fault_at(tokens, Wrong::LateItem)),
+            Kind::Param(_) => Err(fault_at(tokens, Wrong::LateItem)),
             Kind::Cell => Err(fault_at(tokens, Wrong::LateItem)),
             Kind::Inline => Err(fault_at(tokens, Wrong::LateItem)),
             _ => Err(fault_at(tokens, Wrong::Unexpected)),

@@ -3,7 +3,7 @@ ghost use Rattle.std.specs.Prelude.{◌≡◌, map};
 ghost use Rattle.source_reader.specs.Faults.{Gives};
 ghost use Rattle.source_reader.specs.Trees.{function_tree_of};
 ghost use Rattle.source_reader.specs.Names.{names_of};
-ghost use Rattle.source_reader.specs.Items.{constant_at, is_item, is_cell, is_inline, declared_at, inlines_from, items_from};
+ghost use Rattle.source_reader.specs.Items.{constant_at, is_item, is_cell, is_inline, number_of, declared_at, inlines_from, items_from};
 
 use crate::constants::constant_in;
 use crate::faults::{ReadError, Wrong, fault_at};
@@ -49,6 +49,7 @@ fn is_item(tokens: &[Token]) -> bool
     match tokens.split_first() {
         Some((first, _)) => match first.kind {
             Kind::Const => true,
+            Kind::Param(_) => true,
             Kind::Cell => true,
             _ => false,
         },
@@ -77,6 +78,20 @@ fn is_inline(tokens: &[Token]) -> bool
     }
 }
 
+/// The number of a constant whose word is at the front, and which has its own number in the text. A `param` may be given
+/// another one.
+fn number_of(tokens: &[Token], own: i64) -> i64
+    ensures { result ≡ number_of tokens.now own }
+{
+    match tokens.split_first() {
+        Some((first, _)) => match first.kind {
+            Kind::Param(Some(given)) => given,
+            _ => own,
+        },
+        None => own,
+    }
+}
+
 /// The name of a constant or a cell, whose word is at the front, what it stands for, and the tokens after it.
 fn declared_at<'a>(
     alloc: Global,
@@ -93,7 +108,7 @@ fn declared_at<'a>(
         }
     } else {
         let (name, (number, rest)) = constant_at(alloc, names, after_first(tokens))?;
-        Ok((name, (Meaning::Constant(number), rest)))
+        Ok((name, (Meaning::Constant(number_of(tokens, number)), rest)))
     }
 }
 

@@ -1,22 +1,23 @@
 // Whole sources.
 ghost use Rattle.std.specs.Prelude.{◌≡◌, IfOk, map, drop};
-ghost use Rattle.source_tokens.specs.Tokens.{tokens_of};
+ghost use Rattle.source_tokens.specs.Givens.{view_given};
 ghost use Rattle.source_reader.specs.Faults.{Gives};
 ghost use Rattle.source_reader.specs.Trees.{function_tree_of, header_tree_of};
 ghost use Rattle.source_reader.specs.Places.{beginning, place_left, place_of};
 ghost use Rattle.source_reader.specs.Items.{items_from};
 ghost use Rattle.source_reader.specs.Names.{Functions};
 ghost use Rattle.source_reader.specs.declared.items.TheConstants.{ITEMS};
-ghost use Rattle.source_reader.specs.Source.{read_tokens, some_functions, GivesSource, nth_gathering, nth_fn, function_place};
+ghost use Rattle.source_reader.specs.Source.{read_tokens, read_params, some_functions, GivesSource, nth_gathering, nth_fn, function_place};
 
 use crate::faults::{Fault, ReadError, Wrong, fault_at};
 use crate::headers::{Header, begins, gathers_of, headers_in, is_inline};
 use crate::inlines::Inline;
 use crate::items::{ITEMS, items_from};
+use crate::lines::after_line_ends;
 use crate::names::Names;
 use crate::places::{Place, place_of};
 use source_language::Function;
-use source_tokens::{Token, tokens_in};
+use source_tokens::{Given, Token, are_params, tokens_in, tokens_with};
 use std::alloc::{AllocError, Global};
 
 /// The first fault of a source, and its place.
@@ -143,14 +144,35 @@ fn read_tokens(alloc: Global, tokens: &[Token]) -> Result<Vec<Function>, ReadErr
     some_functions(functions)
 }
 
-/// The functions of a source, in its order. The first fault has its place.
-pub fn read_source(alloc: Global, text: &[u8]) -> Result<Vec<Function>, SourceError>
-    ensures { GivesSource text.now result }
+/// Each name that is given a number has to be that of a `param`.
+fn read_params(
+    alloc: Global,
+    givens: &[Given],
+    text: &[u8],
+    tokens: &[Token],
+) -> Result<Vec<Function>, ReadError>
+    ensures { Gives (λ v. map function_tree_of v.items) result
+        (read_params (map view_given givens.now) text.now tokens.now) }
 {
-    let Ok(tokens) = tokens_in(alloc, text) else {
+    if are_params(text, givens, tokens) {
+        read_tokens(alloc, tokens)
+    } else {
+        Err(fault_at(after_line_ends(tokens), Wrong::NoParam))
+    }
+}
+
+/// The functions of a source whose params are given these numbers, in its order. The first fault has its place.
+pub fn read_source(
+    alloc: Global,
+    givens: &[Given],
+    text: &[u8],
+) -> Result<Vec<Function>, SourceError>
+    ensures { GivesSource (map view_given givens.now) text.now result }
+{
+    let Ok(tokens) = tokens_with(alloc, givens, text) else {
         return Err(SourceError::Memory);
     };
-    match read_tokens(alloc, tokens.as_slice()) {
+    match read_params(alloc, givens, text, tokens.as_slice()) {
         Ok(functions) => Ok(functions),
         Err(ReadError::Memory) => Err(SourceError::Memory),
         Err(ReadError::Fault(fault)) => Err(SourceError::Fault(SourceFault {

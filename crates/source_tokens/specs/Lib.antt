@@ -5,3 +5,4 @@ pub mod Lexemes
 pub mod Breaks
 pub mod BuiltIns
 pub mod Tokens
+pub mod Givens

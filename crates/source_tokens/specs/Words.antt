@@ -58,7 +58,7 @@ counting_word lexeme =
 abbrev pub item_word : List ℕ → Option Kind
 item_word lexeme =
     if bytes_eq lexeme (codes "const") then Some kind.Const
-    else if bytes_eq lexeme (codes "param") then Some kind.Const
+    else if bytes_eq lexeme (codes "param") then Some (kind.Param None)
     else if bytes_eq lexeme (codes "inline") then Some kind.Inline
     else None
 

@@ -114,7 +114,7 @@ fn lexeme_len(text: &[u8]) -> usize
 }
 
 /// The first bytes of a text, at most that many.
-fn front(text: &[u8], len: usize) -> &[u8]
+pub(crate) fn front(text: &[u8], len: usize) -> &[u8]
     ensures { result.now ≡ take len text.now }
 {
     if len < text.len() {

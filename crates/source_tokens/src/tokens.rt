@@ -115,8 +115,10 @@ pub enum Kind {
     Gathers(Gathers),
     Grain,
     Give,
-    /// `const` or `param`.
+    /// `const`
     Const,
+    /// `param`, and the number that its name is given from outside, if it is given one.
+    Param(Option<i64>),
     Inline,
     Isolate,
     Post,

@@ -127,7 +127,7 @@ fn item_word(lexeme: &[u8]) -> Option<Kind>
     if is(lexeme, b"const") {
         Some(Kind::Const)
     } else if is(lexeme, b"param") {
-        Some(Kind::Const)
+        Some(Kind::Param(None))
     } else if is(lexeme, b"inline") {
         Some(Kind::Inline)
     } else {

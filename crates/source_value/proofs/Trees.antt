@@ -20,6 +20,7 @@ use Rattle.source_reader.specs.Trees.{LoopTree, RepeatTree, BreakTree, ContinueT
 use Rattle.source_reader.specs.Trees.{function_tree_of}
 use Rattle.source_reader.specs.declared.faults.Fault.{Fault}
 use Rattle.source_serial.proofs.Back.{longer}
+use Rattle.source_tokens.specs.Givens.{Givens}
 use Rattle.source_value.specs.TextValues.{HasValue}
 use Rattle.source_serial.specs.SourceSerial.{SourceTask, sum_at, added, task_of, given_to, then_with, does_serially, serially, source_given, source_value}
 
@@ -237,8 +238,8 @@ abbrev trees_in : Result (List FunctionTree) Fault → List FunctionTree
 trees_in (Ok fs) = fs
 trees_in (Err e) = []
 
-pub one_value : (text : List ℕ) (args : List ℤ) (v w : ℤ) → HasValue text args v → HasValue text args w → v ≡ w
-one_value text args v w a b =
+pub one_value : (gs : Givens) (text : List ℕ) (args : List ℤ) (v w : ℤ) → HasValue gs text args v → HasValue gs text args w → v ≡ w
+one_value gs text args v w a b =
     let fs = a.functions in
     let gs = b.functions in
     let n = a.steps in

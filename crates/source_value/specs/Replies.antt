@@ -16,6 +16,7 @@ use Rattle.reply_writer.specs.AnswerText.{answer_text}
 use Rattle.tenant_model.specs.State.{State, empty}
 use Rattle.tenant_model.specs.Asks.{ask}
 use Rattle.tenant_model.specs.Solo.{step, after}
+use Rattle.source_tokens.specs.Givens.{Givens}
 use Rattle.arena_compile.specs.Jobs.{IsProgramOf}
 use Rattle.source_value.specs.TextValues.{HasValue}
 
@@ -33,19 +34,19 @@ pub record GoesToItsEnd (s : State) (advances : ℕ) : Type 0 where
   pub ends : (advances ≡ MAX_STEPS) ⊎ ((0 < advances) × (moves_at s (advances - 1) ≡ false))
 
 -- A new tenant executes a serial job of the text, with these arguments and this fuel, and replies this when it is asked for it; if it replies that the job is complete, the value is the text's.
-pub record IsReplyOf (c : Tenant) (text : List ℕ) (args : List ℤ) (fuel : ℕ) (given : Reply) : Type 0 where
+pub record IsReplyOf (c : Tenant) (gs : Givens) (text : List ℕ) (args : List ℤ) (fuel : ℕ) (given : Reply) : Type 0 where
   pub job : Job
-  pub program : IsProgramOf text job.program
+  pub program : IsProgramOf gs text job.program
   pub serial : is_serial job.program ≡ true
   pub arguments : job.args ≡ args
   pub fuelled : job.fuel ≡ fuel
   pub advances : ℕ
   pub all : GoesToItsEnd (after (empty c) (steps_of job 0)) advances
   pub replied : given ≡ (ask (after (empty c) (steps_of job advances)) (Poll 1)).0
-  pub value : (v : ℤ) → given ≡ reply.Job 1 (Complete v) → HasValue text args v
+  pub value : (v : ℤ) → given ≡ reply.Job 1 (Complete v) → HasValue gs text args v
 
 -- It is the line of such a reply.
-pub record IsReplyLineOf (c : Tenant) (text : List ℕ) (args : List ℤ) (fuel : ℕ) (line : List ℕ) : Type 0 where
+pub record IsReplyLineOf (c : Tenant) (gs : Givens) (text : List ℕ) (args : List ℤ) (fuel : ℕ) (line : List ℕ) : Type 0 where
   pub given : Reply
-  pub reply : IsReplyOf c text args fuel given
+  pub reply : IsReplyOf c gs text args fuel given
   pub written : line ≡ answer_text (Replied given)

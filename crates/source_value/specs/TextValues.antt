@@ -17,22 +17,23 @@ use Rattle.tenant_model.specs.Serial.{serial_value}
 use Rattle.tenant_model.specs.Solo.{after}
 use Rattle.serial_law.specs.SerialValues.{number_made}
 use Rattle.source_language.specs.declared.syntax.Function.{Function}
+use Rattle.source_tokens.specs.Givens.{Givens}
 use Rattle.source_reader.specs.Source.{Says}
 use Rattle.source_reader.specs.Trees.{function_tree_of}
 use Rattle.source_serial.specs.SourceSerial.{source_value}
 use Rattle.arena_compile.specs.Jobs.{IsProgramOf}
 
--- The text says functions, and this is the value of the first one, with these arguments.
-pub record HasValue (text : List ℕ) (args : List ℤ) (value : ℤ) : Type 0 where
+-- The text says functions, and this is the value of the first one, with these arguments. Its params have the numbers that they are given.
+pub record HasValue (gs : Givens) (text : List ℕ) (args : List ℤ) (value : ℤ) : Type 0 where
   pub functions : List Function
-  pub said : Says text (map function_tree_of functions)
+  pub said : Says gs text (map function_tree_of functions)
   pub steps : ℕ
   pub gives : source_value functions args steps ≡ Some value
 
 -- It is the serial value of a program that is compiled from the text, within so many instructions.
-pub record IsSerialValueOf (text : List ℕ) (args : List ℤ) (most : ℕ) (value : Option ℤ) : Type 0 where
+pub record IsSerialValueOf (gs : Givens) (text : List ℕ) (args : List ℤ) (most : ℕ) (value : Option ℤ) : Type 0 where
   pub program : List (List Instr)
-  pub made : IsProgramOf text program
+  pub made : IsProgramOf gs text program
   pub serial : is_serial program ≡ true
   pub is : value ≡ serial_value program args most
 
@@ -49,6 +50,6 @@ outcome_asked r = None
 -- At each moment of a run: if an ask brought a serial job whose program is compiled from a text, and the reply to another one says that this job is complete, the value is the text's.
 abbrev pub KeepsTextValues : State → List Step → Type 0
 KeepsTextValues s xs =
-    (ys zs ws : List Step) (r q : Request) (b : Job) (j : ℕ) (v : ℤ) (text : List ℕ) → xs ≡ ys ++ Ask r ∷ zs ++ Ask q ∷ ws → job_of r ≡ Some b → IsProgramOf text b.program
+    (ys zs ws : List Step) (r q : Request) (b : Job) (j : ℕ) (v : ℤ) (gs : Givens) (text : List ℕ) → xs ≡ ys ++ Ask r ∷ zs ++ Ask q ∷ ws → job_of r ≡ Some b → IsProgramOf gs text b.program
     → AreNumbers b.args → is_serial b.program ≡ true → number_made (ask (after s ys) r).0 ≡ Some j → outcome_asked q ≡ Some j
-    → (ask (after s (ys ++ Ask r ∷ zs)) q).0 ≡ reply.Job j (Complete v) → HasValue text b.args v
+    → (ask (after s (ys ++ Ask r ∷ zs)) q).0 ≡ reply.Job j (Complete v) → HasValue gs text b.args v

@@ -4,6 +4,7 @@ ghost use Rattle.job_language.specs.declared.steps.Step.{Step};
 ghost use Rattle.job_language.specs.declared.tenants.Tenant.{Tenant};
 ghost use Rattle.job_language.specs.declared.tenants.TheConstants.{MAX_SLOTS};
 ghost use Rattle.tenant_model.specs.State.{empty};
+ghost use Rattle.source_tokens.specs.Givens.{Givens};
 ghost use Rattle.source_value.specs.TextValues.{HasValue, KeepsTextValues};
 
 use source_serial::jobs_have_source_values;
@@ -19,6 +20,6 @@ pub fn texts_have_values()
 
 /// A text has at most one value with the same arguments. It does nothing: its contract is the law.
 pub fn texts_have_one_value()
-    ensures { (text : List ℕ) (args : List ℤ) (v w : ℤ) → HasValue text args v
-        → HasValue text args w → v ≡ w }
+    ensures { (gs : Givens) (text : List ℕ) (args : List ℤ) (v w : ℤ) → HasValue gs text args v
+        → HasValue gs text args w → v ≡ w }
 {}

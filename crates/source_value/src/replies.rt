@@ -1,9 +1,10 @@
 // What a tenant replies of the job of a source.
-ghost use Rattle.std.specs.Prelude.{◌≡◌, ℕ, [], ◌∷◌, replicate, IfOk, IfErr, OnOk};
+ghost use Rattle.std.specs.Prelude.{◌≡◌, ℕ, [], ◌∷◌, map, replicate, IfOk, IfErr, OnOk};
 ghost use Rattle.job_language.specs.declared.steps.Step.TheVariants.{Advance};
 ghost use Rattle.tenant_model.specs.Asks.{ask};
 ghost use Rattle.tenant_model.specs.Solo.{after};
 ghost use Rattle.tenant_model.specs.State.{empty};
+ghost use Rattle.source_tokens.specs.Givens.{view_given};
 ghost use Rattle.source_value.specs.Refusals.{IsNotRun};
 ghost use Rattle.source_value.specs.Replies.{IsReplyOf, IsReplyLineOf, GoesToItsEnd, steps_of};
 
@@ -13,6 +14,7 @@ use crate::laws::texts_have_values;
 use job_language::{Answer, Fuel, Job, MAX_STEPS, Reply, Request, TenantConfig};
 use reply_writer::{ReplyBuf, answer_line};
 use solo_eval::Solo;
+use source_tokens::Given;
 use std::alloc::{AllocError, Global};
 
 /// What a new tenant replies of the job of a source when it has executed it: the plain evaluator of
@@ -23,15 +25,16 @@ pub fn reply_of_source(
     first: i64,
     second: i64,
     fuel: Fuel,
+    givens: &[Given],
     text: &[u8],
 ) -> Result<Reply, SourceError>
-    ensures reply { IfOk result (IsReplyOf config text.now (first ∷ second ∷ []) fuel) }
-    ensures refused { IfErr result (IsNotRun text.now) }
+    ensures reply { IfOk result (IsReplyOf config (map view_given givens.now) text.now (first ∷ second ∷ []) fuel) }
+    ensures refused { IfErr result (IsNotRun (map view_given givens.now) text.now) }
 {
     texts_have_values();
     // Proof hint: the tenant's limits are valid.
     let _ = config.tenant();
-    let job = serial_job_of(alloc, first, second, text)?;
+    let job = serial_job_of(alloc, first, second, givens, text)?;
     let args = job.args;
     let program = job.program;
     match reply_to(
@@ -55,12 +58,13 @@ pub fn reply_line_of_source(
     first: i64,
     second: i64,
     fuel: Fuel,
+    givens: &[Given],
     text: &[u8],
 ) -> Result<ReplyBuf, SourceError>
-    ensures line { IfOk result (IsReplyLineOf config text.now (first ∷ second ∷ []) fuel) }
-    ensures refused { IfErr result (IsNotRun text.now) }
+    ensures line { IfOk result (IsReplyLineOf config (map view_given givens.now) text.now (first ∷ second ∷ []) fuel) }
+    ensures refused { IfErr result (IsNotRun (map view_given givens.now) text.now) }
 {
-    let reply = reply_of_source(alloc, config, first, second, fuel, text)?;
+    let reply = reply_of_source(alloc, config, first, second, fuel, givens, text)?;
     Ok(answer_line(&Answer::Replied(reply)))
 }
 

@@ -54,9 +54,9 @@ def proved_of(call: Call) -> Proved | None:
     """What the proved compiler says of the source, where it is there, and unless a word asks for what only the one in Python
     does."""
     words = call.words
-    if words.python or words.define or words.fuel is not None:
+    if words.python or words.fuel is not None:
         return None
-    return proved(read_text(words.FILE), tuple(words.args or ()))
+    return proved(read_text(words.FILE), tuple(words.args or ()), words.define or ())
 
 
 def listing_of(line: str) -> str:
@@ -117,7 +117,7 @@ COMMANDS = (
             "Compiles a .job file to the JOB that the server reads, in JSON. -S writes the listing in its place, --map "
             "which line of the source each instruction is of (`arena stat --map` reads it), and --serial whether the "
             "job is serial. The JOB is that of arena-compile, which is proved, if ARENA_COMPILE or the PATH has it and it "
-            "takes the source, without -D, --fuel and --python; standard error then says which compiler made it, and -S "
+            "takes the source, without --fuel and --python; standard error then says which compiler made it, and -S "
             "lists its instructions without names and lines.",
             "arena build queens.job -D N=8 -o queens.json", build,
             (*JOB_WORDS, option("-S", help="the listing: labels, registers by name, source lines", action="store_true"),

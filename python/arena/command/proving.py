@@ -2,7 +2,7 @@
 import os
 import shutil
 import subprocess
-from collections.abc import Sequence
+from collections.abc import Iterable, Sequence
 from dataclasses import dataclass
 
 
@@ -21,13 +21,14 @@ class Proved:
         return f"{path}: compiled in Python, since {self.program} says {self.fault}"
 
 
-def proved(text: str, args: Sequence[int]) -> Proved | None:
-    """What the proved compiler makes of a source; None if it is not there."""
+def proved(text: str, args: Sequence[int], parameters: Iterable[tuple[str, int]] = ()) -> Proved | None:
+    """What the proved compiler makes of a source whose params are given these numbers; None if it is not there."""
     program = os.environ.get("ARENA_COMPILE") or shutil.which("arena-compile")
     if not program:
         return None
+    given = [word for name, number in parameters for word in ("-D", f"{name}={number}")]
     try:
-        done = subprocess.run([program, *map(str, args)], input=text.encode(), capture_output=True)
+        done = subprocess.run([program, *given, *map(str, args)], input=text.encode(), capture_output=True)
     except OSError as fault:
         return Proved(program, None, str(fault.strerror))
     said = done.stderr.decode(errors="replace").strip() or f"status {done.returncode}"

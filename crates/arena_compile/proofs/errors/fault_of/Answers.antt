@@ -11,10 +11,11 @@ abbrev HasNoRegisters : Function → Type 0
 HasNoRegisters f = HasCode f × (¬ IsValidProc (function_code f))
 
 pub returns-in-Refused : goal.returns-in-Refused
-returns-in-Refused c = λ text at. has_too text c.args.place (λ f. IsWithoutChoice f c.args.refusal) (λ f. (r : Refusal) × IsRefused f r) (λ f no. (c.in-Refused.field-0, rw c.in-Refused.is at no)) at
+returns-in-Refused c = λ gs text at. has_too gs text c.args.place (λ f. IsWithoutChoice f c.args.refusal) (λ f. (r : Refusal) × IsRefused f r)
+    (λ f no. (c.in-Refused.field-0, rw c.in-Refused.is at no)) at
 
 pub returns-in-Crowded : goal.returns-in-Crowded
-returns-in-Crowded c = λ text at. has_too text c.args.place (λ f. IsWithoutChoice f c.args.refusal) HasNoRegisters (λ f no. let crowded = rw c.in-Crowded.is at no in (crowded.0, crowded.1)) at
+returns-in-Crowded c = λ gs text at. has_too gs text c.args.place (λ f. IsWithoutChoice f c.args.refusal) HasNoRegisters (λ f no. let crowded = rw c.in-Crowded.is at no in (crowded.0, crowded.1)) at
 
 pub returns-in-NoChoice : goal.returns-in-NoChoice
-returns-in-NoChoice c = λ text at. has_too text c.args.place (λ f. IsWithoutChoice f c.args.refusal) HasNoRegisters (λ f no. rw c.in-NoChoice.is at no) at
+returns-in-NoChoice c = λ gs text at. has_too gs text c.args.place (λ f. IsWithoutChoice f c.args.refusal) HasNoRegisters (λ f no. rw c.in-NoChoice.is at no) at

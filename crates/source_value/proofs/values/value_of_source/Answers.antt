@@ -1,7 +1,8 @@
-use Rattle.std.proofs.Common.{◌≡◌, ℤ, [], ◌∷◌, Option, Some, None, IfSome, sym, ap, ◌∙◌}
+use Rattle.std.proofs.Common.{◌≡◌, ℤ, [], ◌∷◌, Option, Some, None, IfSome, map, sym, ap, ◌∙◌}
 use Rattle.tenant_model.specs.Serial.{serial_value}
 use Rattle.source_serial.proofs.Arguments.{arguments_fit}
 use Rattle.source_value.proofs.Arguments.{stored_arguments}
+use Rattle.source_tokens.specs.Givens.{view_given}
 use Rattle.source_value.specs.TextValues.{HasValue}
 use Rattle.source_value.proofs.values.value_of_source.Goals as goal
 
@@ -11,7 +12,7 @@ returns-in-Ok-clause-value c =
     ap (λ args. serial_value c.in_ok-job.job.program args c.args.most) (c.in_ok-job.ensures.made.given ∙ stored_arguments c.args.first c.args.second c.ranges.first c.ranges.second))
   where
     by_value : (o : Option ℤ) → o ≡ serial_value c.in_ok-job.job.program (c.args.first ∷ c.args.second ∷ []) c.args.most
-        → IfSome o (HasValue c.args.text.now (c.args.first ∷ c.args.second ∷ []))
+        → IfSome o (HasValue (map view_given c.args.givens.now) c.args.text.now (c.args.first ∷ c.args.second ∷ []))
     by_value None e = tt
     by_value (Some v) e =
         let from = c.in_ok-job.ensures.made.program in
