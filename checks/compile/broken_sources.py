@@ -9,6 +9,8 @@ GIVEN = ("fn main(a, b) {\n    let x = call f(\n        a,\n        b -\n       
 INSIDE = ("fn main(a, b) {\n    let x = (a + psum i in 0..b grain 2 {\n        let half = (i +\n            1\n        ) / 2\n        if half > 2 {\n            give (\n                half\n"
           "            )\n        }\n        give 1\n    } -\n        7)\n    return x\n}\n")
 SKIPPED = "fn main(a, b) {\n    if a < 3 &&\n        b > 3 ||\n        (a ==\n        b) { return 1 } else if (a\n        > b) { return 2 }\n    while (\n        a < 20\n    ) { a +=\n        b }\n    return a\n}\n"
+BELOW = ("fn main(a, b) {\n    if a < 3 { b += 1 }\n\n    # or\n    else if a < 5 {\n        if b < 3 { return 1 };\n        else { b += 2 }\n"
+         "    }\n    else { if b > 9 { b = 0 }\n\n        b += 3\n    }\n    return b\n}\n")
 
 BROKEN = (
     (WIDE, (3, 7)),
@@ -19,6 +21,12 @@ BROKEN = (
     (SKIPPED, (7, 3)),
     (SKIPPED, (7, 9)),
     ("cell c\nfn main(a, b) {\n    c.local =\n        a\n    c.local +=\n        b; let x =\n        c.local\n    return -\t(\n        x)\n}\n", (3, 7)),
+    (BELOW, (2, 1)),
+    (BELOW, (4, 2)),
+    (BELOW, (4, 5)),
+    (BELOW, (9, 12)),
+    ("fn main(a, b) {\n    let x = (psum i in 0..a {\n        if i % 2 { give i }\n        else { give\t10 }\n    })\n    if x { return x }\n\n}\n", (3, 7)),
+    ("fn main(a, b) {\n    if b < 3 { }\n    # next\n    else if call f(b) > 3 { a = call f(a) }\n    return a\n}\nfn f(x) { return x + 1 }\n", (3, 7)),
     ("inline fn f(x, y) =\n    x -\n    y\nfn main(a, b) { return f(\na,\nb)\n}\n", (3, 7)),
     ("fn main(a, b) {\n    for i in (a\n        )..(\n        b) { a += i }\n    return a\n}\n", (3, 7)),
 )

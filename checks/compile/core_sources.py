@@ -293,7 +293,8 @@ class Sources:
             test = f"{self.call()} > {self.value(1)}" if self.callees and self.draws.random() < 0.2 else self.asking(1)
             text += f" else if {test} {{\n{self.block(indent + 1, depth - 1, in_loop)}{room}}}"
         if self.draws.random() < 0.4:
-            text += f" else {{\n    {room}{self.draws.choice(self.names)} = {self.value(1)}\n{room}}}"
+            between = self.draws.choice((" ", " ", f"\n{room}", f"  # or\n\n{room}"))
+            text += f"{between}else {{\n    {room}{self.draws.choice(self.names)} = {self.value(1)}\n{room}}}"
         return text + "\n"
 
     def loop(self, indent: int, depth: int) -> str:

@@ -130,6 +130,15 @@ abbrev pub after_end : List Token → Option (List Token)
 after_end [] = None
 after_end (t ∷ ts) = if is_end t.kind then Some ts else None
 
+abbrev pub is_else : Kind → Bool
+is_else kind.Else = true
+is_else k = false
+
+-- what follows `else`, if it is here
+abbrev pub after_else : List Token → Option (List Token)
+after_else [] = None
+after_else (t ∷ ts) = if is_else t.kind then Some ts else None
+
 abbrev pub name_in : Kind → Option ℕ
 name_in (kind.Name x) = Some x
 name_in k = None

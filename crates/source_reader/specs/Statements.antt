@@ -16,7 +16,7 @@ use Rattle.source_reader.specs.Tasks.{free_group, waited, leaving, block_end}
 use Rattle.source_reader.specs.Ahead.{next_wait, next_ask}
 use Rattle.source_reader.specs.Givers.{giver_at}
 use Rattle.source_reader.specs.Questions.{asked_again}
-use Rattle.source_reader.specs.Lines.{leaves, after_begin, after_line_ends, ended, after_end, let_name, if_in_loop, is_if}
+use Rattle.source_reader.specs.Lines.{leaves, after_begin, after_line_ends, ended, after_end, after_else, let_name, if_in_loop, is_if}
 use Rattle.source_reader.specs.declared.calls.Run.TheVariants as run
 use Rattle.source_reader.specs.Calls.{run_at, is_spawn}
 use Rattle.source_reader.specs.Groups.{gathered, group_at, into_at, cancel_at}
@@ -163,13 +163,13 @@ branch_of next names in_loop (Some asked) ts = do
   s ← next (Asked (length asked) (length c.1) n names) (Branch in_loop) ts
   Ok (ThenTree c.0 s.0, s.1)
 
-abbrev pub otherwise_of : Reader → Scope → Bool → Kind → List Token → List Token → ReadStmt
-otherwise_of next names in_loop kind.Else rest ts = else_at next names in_loop rest
-otherwise_of next names in_loop k rest ts = Ok (SkipTree, ts)
+abbrev pub otherwise_of : Reader → Scope → Bool → Option (List Token) → List Token → ReadStmt
+otherwise_of next names in_loop (Some rest) ts = else_at next names in_loop rest
+otherwise_of next names in_loop None ts = Ok (SkipTree, ts)
 
+-- behind the block of an `if`, where `else` may stand on a line of its own
 abbrev pub otherwise_at : Reader → Scope → Bool → List Token → ReadStmt
-otherwise_at next names in_loop [] = Ok (SkipTree, [])
-otherwise_at next names in_loop (t ∷ ts) = otherwise_of next names in_loop t.kind ts (t ∷ ts)
+otherwise_at next names in_loop ts = otherwise_of next names in_loop (after_else (after_line_ends ts)) ts
 
 abbrev pub stmt_step : Reader → Scope → Part → List Token → ReadStmt
 stmt_step next names (Block in_loop) ts = after_begin ts >>= λ inside. next names (Rest in_loop false) inside

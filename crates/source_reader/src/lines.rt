@@ -2,7 +2,7 @@
 ghost use Rattle.std.specs.Prelude.{◌≡◌, option_map};
 ghost use Rattle.source_reader.specs.Faults.{Gives};
 ghost use Rattle.source_reader.specs.Names.{names_of};
-ghost use Rattle.source_reader.specs.Lines.{after_begin, after_set, after_in, after_range, after_comma, name_at, free_name, is_line_end, is_end, after_line_ends, ended, item_ended, after_end, name_in, let_name, if_in_loop, is_if};
+ghost use Rattle.source_reader.specs.Lines.{after_begin, after_set, after_in, after_range, after_comma, name_at, free_name, is_line_end, is_end, after_line_ends, ended, item_ended, after_end, is_else, after_else, name_in, let_name, if_in_loop, is_if};
 ghost use Rattle.source_reader.specs.Marks.{is_close};
 ghost use Rattle.source_reader.specs.Trees.{stmt_tree_of};
 
@@ -176,6 +176,31 @@ pub(crate) fn after_end(tokens: &[Token]) -> Option<&[Token]>
 {
     match tokens.split_first() {
         Some((first, rest)) => { if is_end(first.kind) { Some(rest) } else { None } }
+        None => None,
+    }
+}
+
+fn is_else(kind: Kind) -> bool
+    ensures { result ≡ is_else kind }
+{
+    match kind {
+        Kind::Else => true,
+        _ => false,
+    }
+}
+
+/// What follows `else`, if it is here.
+pub(crate) fn after_else(tokens: &[Token]) -> Option<&[Token]>
+    ensures { option_map (λ ts. ts.now) result ≡ after_else tokens.now }
+{
+    match tokens.split_first() {
+        Some((first, rest)) => {
+            if is_else(first.kind) {
+                Some(rest)
+            } else {
+                None
+            }
+        }
         None => None,
     }
 }

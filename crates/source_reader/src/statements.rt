@@ -12,7 +12,7 @@ use crate::faults::{ReadError, Wrong, fault_at};
 use crate::givers::giver_at;
 use crate::giving::{give_at, group_given, return_in};
 use crate::groups::{cancel_at, gathered, group_at, into_at};
-use crate::lines::{after_begin, after_end, after_line_ends, ended, is_if, let_name};
+use crate::lines::{after_begin, after_else, after_end, after_line_ends, ended, is_if, let_name};
 use crate::loops::{counting_loop, loop_left};
 use crate::marks::after_first;
 use crate::names::{Meaning, Names, new_number};
@@ -267,7 +267,7 @@ fn for_at<'a>(
     ))
 }
 
-/// What may follow the block of an `if`.
+/// What may follow the block of an `if`: `else`, which may stand on a line of its own.
 #[tactic(auto, using(crate::proofs::StmtSteps::stmt_steps))]
 #[cycle(statements)]
 fn otherwise_at<'a>(
@@ -283,18 +283,13 @@ fn otherwise_at<'a>(
     if fuel == 0 {
         return Err(fault_at(tokens, Wrong::TooLong));
     }
-    let Some((first, rest)) = tokens.split_first() else {
+    let Some(rest) = after_else(after_line_ends(tokens)) else {
         return Ok((Stmt::Skip, tokens));
     };
-    match first.kind {
-        Kind::Else => {
-            let inner = Names::Inner(false, &*names);
-            if is_if(rest) {
-                branch_at(alloc, &inner, in_loop, fuel - 1, rest)
-            } else {
-                block_at(alloc, &inner, in_loop, fuel - 1, rest)
-            }
-        }
-        _ => Ok((Stmt::Skip, tokens)),
+    let inner = Names::Inner(false, &*names);
+    if is_if(rest) {
+        branch_at(alloc, &inner, in_loop, fuel - 1, rest)
+    } else {
+        block_at(alloc, &inner, in_loop, fuel - 1, rest)
     }
 }
