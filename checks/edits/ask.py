@@ -60,13 +60,23 @@ def copied(name: str, folder: pathlib.Path) -> pathlib.Path:
     return crate
 
 
+def is_at(name: str, path: str) -> bool:
+    """Whether a path is that of a function or a module, or of what it is in."""
+    return name == path or name.startswith(f"{path}::")
+
+
 def functions_at(crate: pathlib.Path, paths: list[str]) -> set[str]:
-    """Returns the functions of a crate's sources that these paths name."""
+    """Returns the functions of a crate's sources that these paths name. A method is in the module of its type, and in that of
+    its file, too."""
     sources = {source: source.read_text() for source in crate.glob("src/**/*.rt")}
     modules = {source: module_of(str(source.relative_to(crate))) for source in sources}
     homes = {name: modules[source] for source, text in sources.items() for name in TYPE.findall(text)}
-    bodies = [body.function for source, text in sources.items() for body in bodies_of(modules[source], homes, text.splitlines())]
-    return {body for body in bodies if any(body == path or body.startswith(f"{path}::") for path in paths)}
+    bodies = {
+        body.function: modules[source]
+        for source, text in sources.items()
+        for body in bodies_of(modules[source], homes, text.splitlines())
+    }
+    return {name for name, module in bodies.items() if any(is_at(name, path) or is_at(module, path) for path in paths)}
 
 
 def root_of(crate: pathlib.Path) -> str:
@@ -103,7 +113,10 @@ def main() -> int:
     with tempfile.TemporaryDirectory(prefix=f"ask-{asked.crate}-") as room:
         folder = pathlib.Path(room)
         crate = copied(asked.crate, folder)
-        stub_out(asked.crate, crate, functions_at(crate, asked.paths))
+        named = functions_at(crate, asked.paths)
+        if not named:
+            parser.error(f"no function of {asked.crate} is at {', '.join(asked.paths)}")
+        stub_out(asked.crate, crate, named)
         words = words_for(crates, asked.crate, libraries(crates, asked.crate, [TOP, *(tree.resolve() for tree in asked.built)]), folder)
         words += ["--jobs", asked.jobs, *(word for path in asked.paths for word in ("--only", path)), *more.split()]
         return subprocess.run([*words, root_of(crate)], cwd=crate, stdin=subprocess.DEVNULL).returncode
