@@ -8,7 +8,7 @@ use Rattle.std.specs.Str.Parse.{AllDigits, digits_value, ParsesUnsigned}
 use Rattle.std.proofs.lemmas.Bool.{and_parts}
 use Rattle.std.proofs.lemmas.Fmt.{decimal_is_IsNumeral}
 use Rattle.std.proofs.lemmas.List.{append_cancel_left, append_cancel_right}
-use Rattle.std.proofs.lemmas.Str.Parse.{numerals_by_value, parse_gives, tells_digits}
+use Rattle.std.proofs.lemmas.Str.Parse.{digit_at, numerals_by_value, parse_gives, tells_digits}
 use Rattle.std.proofs.lemmas.Str.Pattern.{IsSplitOnceResult, split_after}
 use Rattle.job_language.specs.Name.{is_name, is_name_byte}
 use Rattle.host_folder.specs.Paths.{journal_path, term_digits, term_path}
@@ -58,11 +58,17 @@ no_dot_in (b ∷ name) h zero within e =
     absurd (true≢false (sym dot))
 no_dot_in (b ∷ name) h (suc i) within e = no_dot_in name (and_parts (is_name_byte b) (list_all is_name_byte name) h).1 i (omega (arith, within)) e
 
--- what is cut off a path, one after another
-module _ (folder path name : List ℕ) (term : ℕ) (valid : is_name name ≡ true) (is : path ≡ term_path folder name term) where
-  abbrev behind : List ℕ
-  behind = term_digits term ++ codes ".jsonl"
+-- A number of a term has no dot either.
+no_dot_in_digits : (term : ℕ) → term < 2 ^ 64 → (i : ℕ) → i < length (term_digits term) → get_or (term_digits term) i 0 ≢ 46
+no_dot_in_digits term small i within e =
+    let digits = zeros_digits (6 - length (decimal term)) (decimal term) (decimal_is_IsNumeral term small).0.1 in
+    omega (arith, digit_at (term_digits term) i digits within)
 
+pub digits_are : (term : ℕ) (rest digits : List ℕ) → rest ≡ term_digits term ++ codes ".jsonl" → rest ≡ digits ++ codes ".jsonl" → digits ≡ term_digits term
+digits_are term rest digits h k = append_cancel_right digits (term_digits term) (codes ".jsonl") (sym k ∙ h)
+
+-- what is cut off a path, one after another
+module _ (folder path name behind : List ℕ) (valid : is_name name ≡ true) (is : path ≡ folder ++ (codes "/" ++ (name ++ (codes "." ++ behind)))) where
   pub rest_is : (rest : List ℕ) → path ≡ folder ++ rest → rest ≡ codes "/" ++ (name ++ (codes "." ++ behind))
   rest_is rest h = append_cancel_left folder rest (codes "/" ++ (name ++ (codes "." ++ behind))) (sym h ∙ is)
 
@@ -73,5 +79,7 @@ module _ (folder path name : List ℕ) (term : ℕ) (valid : is_name name ≡ tr
       → MatchOption r ⊥ (λ x. (x.0.now ≡ name) × (x.1.now ≡ behind))
   name_cut file r h k = split_after 46 file name behind r k (omega arith) h (no_dot_in name (and_parts _ _ valid).1)
 
-  pub digits_are : (rest digits : List ℕ) → rest ≡ behind → rest ≡ digits ++ codes ".jsonl" → digits ≡ term_digits term
-  digits_are rest digits h k = append_cancel_right digits (term_digits term) (codes ".jsonl") (sym k ∙ h)
+-- the number of a journal's term, cut off before what follows it
+pub term_cut : (term : ℕ) → term < 2 ^ 64 → (end last : List ℕ) (r : Option (Bor (List ℕ) × Bor (List ℕ))) → end ≡ term_digits term ++ (codes "." ++ last) → IsSplitOnceResult 46 end r
+    → MatchOption r ⊥ (λ x. (x.0.now ≡ term_digits term) × (x.1.now ≡ last))
+term_cut term small end last r h k = split_after 46 end (term_digits term) last r k (omega arith) h (no_dot_in_digits term small)

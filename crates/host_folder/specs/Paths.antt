@@ -22,3 +22,12 @@ FindsTerm folder path r = (name : List ℕ) (term : ℕ) → is_name name ≡ tr
 pub record IsTermOf (folder path : List ℕ) (r : Option (List ℕ × ℕ)) : Type 0 where
   pub said : IfSome r (λ f. (is_name f.0 ≡ true) × (path ≡ term_path folder f.0 f.1))
   pub found : FindsTerm folder path r
+
+-- If the path is that of a tenant's journal in the folder, it is read as this one.
+abbrev pub FindsJournal : (folder path : List ℕ) → Option (List ℕ × ℕ × ℕ) → Type 0
+FindsJournal folder path r = (name : List ℕ) (term base : ℕ) → is_name name ≡ true → term < 2 ^ 64 → base < 2 ^ 64 → path ≡ journal_path folder name term base → r ≡ Some (name, term, base)
+
+-- the tenant, the term and the number after which its jobs are numbered, whose journal the path is, if it is the path of one
+pub record IsJournalOf (folder path : List ℕ) (r : Option (List ℕ × ℕ × ℕ)) : Type 0 where
+  pub said : IfSome r (λ f. (is_name f.0 ≡ true) × (path ≡ journal_path folder f.0 f.1 f.2))
+  pub found : FindsJournal folder path r

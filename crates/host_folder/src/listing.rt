@@ -1,9 +1,8 @@
 // The names in the folders of a host.
 ghost use Rattle.std.specs.Prelude.{option_map};
-ghost use Rattle.host_folder.specs.Paths.{FindsTerm};
+ghost use Rattle.host_folder.specs.Paths.{FindsJournal, FindsTerm};
 
 use crate::words::after;
-use job_language::TenantName;
 use server_io::ServerFault;
 use std::fs::Files;
 use std::{fs, io};
@@ -52,11 +51,16 @@ pub(crate) fn parts_of<'a>(folder: &str, path: &'a str) -> Option<(&'a str, u64)
     Some((name, digits.parse::<u64>().ok()?))
 }
 
-/// The name of the tenant, the number of the term and the base of its jobs' numbers of a journal's path.
-pub(crate) fn journal_in(path: &str) -> Option<(&str, u64, u64)> {
-    let (_, file) = path.rsplit_once('/')?;
-    let (name, rest) = file.split_once('.')?;
-    let (term, base) = rest.strip_suffix(".jsonl")?.split_once('.')?;
-    TenantName::new(name)?;
-    Some((name, term.parse::<u64>().ok()?, base.parse::<u64>().ok()?))
+/// The name of the tenant, the number of the term and the base of its jobs' numbers of a journal in a folder, if a path
+/// has those of one.
+pub(crate) fn journal_in<'a>(folder: &str, path: &'a str) -> Option<(&'a str, u64, u64)>
+    ensures { FindsJournal folder.now path.now
+        (option_map (λ parts. (parts.0.now, parts.1, parts.2)) result) }
+{
+    let rest = after(path, folder)?;
+    let file = after(rest, "/")?;
+    let (name, end) = file.split_once('.')?;
+    let (digits, last) = end.split_once('.')?;
+    let base = last.strip_suffix(".jsonl")?;
+    Some((name, digits.parse::<u64>().ok()?, base.parse::<u64>().ok()?))
 }

@@ -1,6 +1,6 @@
 // What a host finds in its folder when it begins.
 ghost use Rattle.std.specs.Prelude.{option_map, IfOk, string_bytes};
-ghost use Rattle.host_folder.specs.Paths.{IsTermOf};
+ghost use Rattle.host_folder.specs.Paths.{IsJournalOf, IsTermOf};
 
 use super::Folder;
 use crate::listing::{is_part, journal_in, listed, parts_of};
@@ -76,19 +76,39 @@ impl Folder {
         let mut journals = Vec::new(alloc);
         for entry in &listed(rt, self.journals.as_str())? {
             let path = entry.as_str();
-            if let Some((name, term, base)) = journal_in(path) {
-                if self.journal(alloc, name, term, base)?.as_str() == path {
-                    journals.reserve(1)?;
-                    journals.push_reserved(LeftJournal {
-                        path: String::from_str(alloc, path)?,
-                        name: String::from_str(alloc, name)?,
-                        term,
-                        base,
-                    });
-                }
+            if let Some((name, term, base)) = self.journal_in(alloc, path)? {
+                journals.reserve(1)?;
+                journals.push_reserved(LeftJournal {
+                    path: String::from_str(alloc, path)?,
+                    name: String::from_str(alloc, name)?,
+                    term,
+                    base,
+                });
             }
         }
         Ok(journals)
+    }
+
+    /// The tenant's name, the number of the term and the base of its jobs' numbers, whose journal a path is. None if it is
+    /// that of none.
+    fn journal_in<'a>(
+        &self,
+        alloc: Global,
+        path: &'a str,
+    ) -> Result<Option<(&'a str, u64, u64)>, AllocError>
+        ensures { IfOk result (λ found. IsJournalOf (string_bytes self.now.journals) path.now
+            (option_map (λ parts. (parts.0.now, parts.1, parts.2)) found)) }
+    {
+        let Some((name, term, base)) = journal_in(self.journals.as_str(), path) else {
+            return Ok(None);
+        };
+        if TenantName::new(name).is_some()
+            && self.journal(alloc, name, term, base)?.as_str() == path
+        {
+            Ok(Some((name, term, base)))
+        } else {
+            Ok(None)
+        }
     }
 
     /// The tenant's name and the number of the term whose dump a path is. None if it is that of none.
