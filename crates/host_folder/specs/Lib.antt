@@ -4,3 +4,4 @@ pub mod Numbers
 pub mod Paths
 pub mod Shelves
 pub mod Finishing
+pub mod Beginning

@@ -32,8 +32,12 @@ KeepsOthers name old new = (other : List ℕ) → other ≢ name → numbers_of 
 abbrev pub KeepsAll : (old new : Shelves) → Type 0
 KeepsAll old new = (other : List ℕ) → numbers_of new other ≡ numbers_of old other
 
+-- Each of these numbers lies before that one, but for the last number there is.
+abbrev pub ComeBefore : (next : ℕ) (numbers : List ℕ) → Type 0
+ComeBefore next numbers = EachIndex numbers (λ k. capped (suc (slice_index numbers k)) ≤ next)
+
 -- the number after the newest of them, and 0 without one
 pub record IsAfterNewest (numbers : List ℕ) (next : ℕ) : Type 0 where
   pub none : length numbers ≡ 0 → next ≡ 0
-  pub after : EachIndex numbers (λ k. capped (suc (slice_index numbers k)) ≤ next)
+  pub after : ComeBefore next numbers
   pub newest : 0 < length numbers → (n : ℕ) × Contains numbers n × (next ≡ capped (suc n))

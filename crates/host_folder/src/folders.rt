@@ -1,6 +1,8 @@
 // The folder in which a host works.
-ghost use Rattle.std.specs.Prelude.{◌≡◌, IfOk, string_bytes};
+ghost use Rattle.std.specs.Prelude.{◌≡◌, IfOk, max, string_bytes};
+ghost use Rattle.host_folder.specs.Beginning.{job_behind, number_behind};
 ghost use Rattle.host_folder.specs.Paths.{journal_path, term_path};
+ghost use Rattle.host_folder.specs.Shelves.{numbers_of, ComeBefore};
 
 mod finding;
 
@@ -152,26 +154,19 @@ impl Folder {
         alloc: Global,
         name: &str,
         shelves: &Shelves,
-    ) -> Result<Begin, ServerFault> {
+    ) -> Result<Begin, ServerFault>
+        ensures { IfOk result (λ begin. ComeBefore begin.number (numbers_of shelves.now name.now)) }
+    {
         let path = format!(in alloc; "{}/{name}", self.terms.as_str())?;
         // Dumps of a host that had no such numbers count as well.
         let dumped = shelves.next(name);
-        let span = match text_of(rt, alloc, path.as_str()) {
-            Ok(text) => span_in(text.as_slice()),
-            Err(fault) if fault.kind() == io::ErrorKind::NotFound => {
-                return Ok(Begin {
-                    number: dumped,
-                    base: 0,
-                });
-            }
-            Err(fault) => return Err(ServerFault::of_system(fault)),
-        };
-        match span {
-            Some(Span { number, base, room }) => Ok(Begin {
-                number: dumped.max(number.saturating_add(1)),
-                base: base.saturating_add(room),
-            }),
-            None => Err(ServerFault::Device),
+        match text_of(rt, alloc, path.as_str()) {
+            Ok(text) => match span_in(text.as_slice()) {
+                Some(span) => Ok(begin_behind(dumped, Some(span))),
+                None => Err(ServerFault::Device),
+            },
+            Err(fault) if fault.kind() == io::ErrorKind::NotFound => Ok(begin_behind(dumped, None)),
+            Err(fault) => Err(ServerFault::of_system(fault)),
         }
     }
 
@@ -210,5 +205,23 @@ impl Folder {
             path.as_str(),
             text.as_slice(),
         )
+    }
+}
+
+/// Where a tenant's terms and jobs are to begin: behind its dumps, whose next number is `dumped`, and behind its newest
+/// term.
+fn begin_behind(dumped: u64, newest: Option<Span>) -> Begin
+    ensures number { result.number ≡ max dumped (number_behind newest) }
+    ensures base { result.base ≡ job_behind newest }
+{
+    match newest {
+        Some(Span { number, base, room }) => Begin {
+            number: dumped.max(number.saturating_add(1)),
+            base: base.saturating_add(room),
+        },
+        None => Begin {
+            number: dumped,
+            base: 0,
+        },
     }
 }
