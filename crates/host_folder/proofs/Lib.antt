@@ -6,3 +6,4 @@ pub mod Outcomes
 pub mod Spans
 pub mod Shelving
 pub mod Paths
+pub mod Notes

@@ -10,7 +10,7 @@ use Rattle.std.proofs.lemmas.Fmt.{decimal_is_IsNumeral, decimal_digit, decimal_i
 use Rattle.std.proofs.lemmas.List.{append_cancel_left, append_cancel_right}
 use Rattle.std.proofs.lemmas.Str.Parse.{digit_at, numerals_by_value, parse_plain, tells_digits}
 use Rattle.std.proofs.lemmas.Str.Pattern.{IsSplitOnceResult, split_after, split_parts}
-use Rattle.host_folder.specs.Reading.{ReadsNumber}
+use Rattle.host_folder.specs.Reading.{IsNumberOf, ReadsNumber}
 use denote.Ref.{Bor}
 use lib.Signed.{mag}
 
@@ -77,6 +77,18 @@ module _ (end : ℕ) (text : List ℕ) (digits rest : Bor (List ℕ)) (cut : IsS
         let there = cut_at m small end text more (Some (digits, rest)) cut low e in
         absurd (other (subst (λ ds. (slice_index ds 0 ≢ 43) × (slice_index ds 0 ≡ 48 → length ds ≡ 1)) (sym there.0) (is_plain_decimal m small)));
   }
+
+pub number_is : {E : Type 0} (text : List ℕ) (n : ℕ) (r : Result ℕ E) → ParsesUnsigned 64 10 text r → r ≡ Ok n
+    → slice_index text 0 ≢ 43 → (slice_index text 0 ≡ 48 → length text ≡ 1) → IsNumberOf text (Some n)
+number_is text n r h is unsigned alone =
+    let k = plain_read text r n h is unsigned alone in
+    record { said = (k.0, sym k.1); found = λ m small e. ap (λ v. Some v) (decimal_injective n m k.0 small (k.1 ∙ e)) }
+
+pub number_is_not : (text : List ℕ) → ((slice_index text 0 ≢ 43) × (slice_index text 0 ≡ 48 → length text ≡ 1) → ⊥) → IsNumberOf text None
+number_is_not text other = record {
+  said = tt;
+  found = λ m small e. absurd (other (subst (λ ds. (slice_index ds 0 ≢ 43) × (slice_index ds 0 ≡ 48 → length ds ≡ 1)) (sym e) (is_plain_decimal m small)));
+}
 
 -- Bytes of which no text is made are none.
 pub no_text : {E : Type 0} (line : List ℕ) (V : E → Type 0) (r : Result (Bor (List ℕ)) E) → MatchResult r (λ s. (s.now ≡ line) × IsUtf8 line) (λ e. ¬ (IsUtf8 line) × V e)

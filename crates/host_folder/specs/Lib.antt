@@ -5,3 +5,4 @@ pub mod Paths
 pub mod Shelves
 pub mod Finishing
 pub mod Beginning
+pub mod Notes

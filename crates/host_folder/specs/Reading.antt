@@ -8,6 +8,11 @@ use Rattle.request_reader.specs.Lines.{newline}
 abbrev pub Follows : (word text : List ℕ) → Option (List ℕ) → Type 0
 Follows word text r = MatchOption r ((rest : List ℕ) → text ≢ word ++ rest) (λ rest. text ≡ word ++ rest)
 
+-- the number of 64 bits that a text is, as a host writes it, if it is one
+pub record IsNumberOf (text : List ℕ) (r : Option ℕ) : Type 0 where
+  pub said : IfSome r (λ n. (n < 2 ^ 64) × (text ≡ decimal n))
+  pub found : (n : ℕ) → n < 2 ^ 64 → text ≡ decimal n → r ≡ Some n
+
 -- the number of 64 bits with which a text begins, as a host writes it, and what follows the byte behind it
 pub record ReadsNumber (end : ℕ) (text : List ℕ) (r : Option (ℕ × List ℕ)) : Type 0 where
   pub said : IfSome r (λ read. (read.0 < 2 ^ 64) × (text ≡ decimal read.0 ++ (end ∷ read.1)))

@@ -2,12 +2,14 @@
 // was the newest one of its tenant.
 ghost use Rattle.std.specs.Prelude.{◌≡◌, ◌==◌, filter, nat_lt};
 ghost use Rattle.std.specs.List.{list_any};
+ghost use Rattle.host_folder.specs.Notes.{IsNotedIn};
 ghost use Rattle.host_folder.specs.Results.{is_kept};
 
 use crate::files::bytes_of;
 use crate::folders::Folder;
 use crate::listing::{listed, parts_of};
 use crate::shelves::Shelves;
+use crate::words::{after, number_in};
 use server_io::ServerFault;
 use std::alloc::{AllocError, Global};
 use std::fs::{File, Files};
@@ -68,10 +70,13 @@ impl Forgotten {
 
 /// The number that a line notes behind that word. Before the note may stand the first part of one that could not be
 /// written.
-fn noted_in(line: &[u8], word: &str) -> Option<u64> {
-    let (_, note) = str::from_utf8(line).ok()?.rsplit_once('{')?;
-    let number = note.strip_prefix(word)?.strip_suffix("}")?;
-    number.parse::<u64>().ok()
+fn noted_in(line: &[u8], word: &str) -> Option<u64>
+    ensures { IsNotedIn word.now line.now result }
+{
+    let text = str::from_utf8(line).ok()?;
+    let (_, note) = text.rsplit_once('{')?;
+    let number = after(note, word)?.strip_suffix("}")?;
+    number_in(number)
 }
 
 /// What a tenant's notes say. `Device` if they can't be read, and `Memory` if an allocation fails.

@@ -1,6 +1,6 @@
 // The words and numbers of the texts that a host wrote.
 ghost use Rattle.std.specs.Prelude.{◌≡◌, ◌≢◌, ◌↔◌, ◌<◌, true, option_map, length, slice_index};
-ghost use Rattle.host_folder.specs.Reading.{Follows, ReadsNumber};
+ghost use Rattle.host_folder.specs.Reading.{Follows, IsNumberOf, ReadsNumber};
 
 /// What follows a word in a text. None if the text doesn't begin with it.
 pub(crate) fn after<'a>(text: &'a str, word: &str) -> Option<&'a str>
@@ -22,6 +22,14 @@ pub(crate) fn number_before(text: &str, end: char) -> Option<(u64, &str)>
     } else {
         None
     }
+}
+
+/// The number that a text is, as a host writes it: without a sign, and without zeros before it.
+pub(crate) fn number_in(text: &str) -> Option<u64>
+    ensures { IsNumberOf text.now result }
+{
+    let number = text.parse::<u64>().ok()?;
+    if is_plain(text) { Some(number) } else { None }
 }
 
 /// Whether a number has neither a sign nor a zero before it.
