@@ -7,3 +7,4 @@ pub mod Spans
 pub mod Shelving
 pub mod Paths
 pub mod Notes
+pub mod Parts

@@ -1,5 +1,6 @@
 -- The names of a host's files.
-use Rattle.std.specs.Prelude.{◌≡◌, ℕ, ◌-◌, ◌<◌, ◌^◌, true, List, ◌++◌, Option, Some, IfSome, codes, decimal, length, replicate}
+use Rattle.std.specs.Prelude.{◌≡◌, ℕ, ◌-◌, ◌<◌, ◌^◌, ◌&&◌, Bool, true, nat_le, List, ◌++◌, Option, Some, IfSome, codes, decimal, length, replicate}
+use Rattle.std.specs.List.{list_all}
 use Rattle.job_language.specs.Name.{is_name}
 
 -- the number of a term as it stands in a name: six digits at least
@@ -31,3 +32,15 @@ FindsJournal folder path r = (name : List ℕ) (term base : ℕ) → is_name nam
 pub record IsJournalOf (folder path : List ℕ) (r : Option (List ℕ × ℕ × ℕ)) : Type 0 where
   pub said : IfSome r (λ f. (is_name f.0 ≡ true) × (path ≡ journal_path folder f.0 f.1 f.2))
   pub found : FindsJournal folder path r
+
+abbrev pub is_digit : ℕ → Bool
+is_digit b = nat_le 48 b && nat_le b 57
+
+-- It is the path of a part of the dump whose path is `front` and `.jsonl`: the number of the part, if there is one, has digits.
+abbrev pub IsPartOf : (front path : List ℕ) → Type 0
+IsPartOf front path = (digits : List ℕ) × (list_all is_digit digits ≡ true) × (path ≡ front ++ (codes ".jsonl.part" ++ digits))
+
+-- the path of the dump of which the path is a part's, without its end, if it is a part's
+pub record IsBeforePart (path : List ℕ) (r : Option (List ℕ)) : Type 0 where
+  pub said : IfSome r (λ front. IsPartOf front path)
+  pub found : (front : List ℕ) → IsPartOf front path → r ≡ Some front

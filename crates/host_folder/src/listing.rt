@@ -1,6 +1,8 @@
 // The names in the folders of a host.
-ghost use Rattle.std.specs.Prelude.{option_map};
-ghost use Rattle.host_folder.specs.Paths.{FindsJournal, FindsTerm};
+ghost use Rattle.std.specs.Prelude.{◌≡◌, ◌↔◌, ℕ, true, List, ◌++◌, codes, option_map};
+ghost use Rattle.std.specs.List.{list_all};
+ghost use Rattle.dump_files.specs.Paths.{IsPathOfPart};
+ghost use Rattle.host_folder.specs.Paths.{is_digit, FindsJournal, FindsTerm, IsBeforePart, IsPartOf};
 
 use crate::words::after;
 use server_io::ServerFault;
@@ -33,11 +35,32 @@ fn list<R: Files + AllocGlobal + Clone + Drop>(rt: &R, folder: &str) -> io::Resu
 }
 
 /// Whether a path is that of a dump that was not written whole.
-pub(crate) fn is_part(path: &str) -> bool {
-    match path.rsplit_once(".jsonl.part") {
-        Some((_, number)) => number.bytes().all(|byte| byte.is_ascii_digit()),
-        None => false,
+pub(crate) fn is_part(path: &str) -> bool
+    ensures exact { (result ≡ true) ↔ ((front : List ℕ) × IsPartOf front path.now) }
+    ensures left { (front : List ℕ) → IsPathOfPart (front ++ codes ".jsonl") path.now → result ≡ true }
+{
+    before_part(path).is_some()
+}
+
+/// The path of a dump whose part this is, without its end. None if it is the path of no part.
+fn before_part(path: &str) -> Option<&str>
+    ensures { IsBeforePart path.now (option_map (λ front. front.now) result) }
+{
+    let (dump, end) = path.rsplit_once('.')?;
+    let front = dump.strip_suffix(".jsonl")?;
+    let number = after(end, "part")?;
+    if are_digits(number.as_bytes()) {
+        Some(front)
+    } else {
+        None
     }
+}
+
+/// Whether a text has digits alone. It may have none.
+fn are_digits(text: &[u8]) -> bool
+    ensures { result ≡ list_all is_digit text.now }
+{
+    text.iter().all(|byte| byte.is_ascii_digit())
 }
 
 /// The name of the tenant and the number of the term of a file in a folder, if it has those of one.
