@@ -48,6 +48,8 @@ class Sources:
     """The groups of the innermost block that were not waited for, and those of the blocks around it."""
     cells: list[str] = field(default_factory=list)
     inlines: list[Inline] = field(default_factory=list)
+    spawns_nameless: bool = False
+    """Whether the function may have tasks without a name, for which it has a group then."""
     may_divide: bool = True
     may_ask: bool = False
     hidable: list[str] = field(default_factory=list)
@@ -72,6 +74,7 @@ class Sources:
     def function(self, head: Called, callees: list[Called], depth: int) -> str:
         """A function that calls some of these."""
         self.count, self.names, self.callees = 0, ["a", "b"][:head.parameters], callees
+        self.spawns_nameless = self.draws.random() < 0.3
         parameters = ", ".join(self.names)
         body = self.block(1, depth, in_loop=False)
         last = "" if self.draws.random() < 0.2 else f"    return {self.returned(2)}\n"
@@ -144,7 +147,9 @@ class Sources:
         kind = self.draws.choice(("let", "set", "update", "if", "while") if depth else ("let", "set", "update"))
         if self.callees and self.draws.random() < 0.1:
             return f"{room}{self.call(('call', 'isolate', 'post'))}\n"
-        if self.callees and self.further_out + len(self.pending) + len(self.groups) < MOST_PENDING and self.draws.random() < 0.25:
+        if self.callees and self.spawns_nameless and not self.in_parallel and self.draws.random() < 0.15:
+            return f"{room}spawn {self.application()}\n"
+        if self.callees and self.further_out + len(self.pending) + len(self.groups) < MOST_PENDING - self.spawns_nameless and self.draws.random() < 0.25:
             return self.draws.choice((self.task, self.task, self.group))(room)
         if self.callees and (self.groups or self.outer_groups) and self.draws.random() < 0.3:
             return f"{room}spawn {self.draws.choice(self.groups + self.outer_groups)}: {self.application()}\n"

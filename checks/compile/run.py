@@ -1,8 +1,8 @@
 #!/usr/bin/env python3
 """Compares arena-compile with the compiler in Python, and both with the interpreter of checks/python, which was written from
 docs/LANGUAGE.md alone, on drawn sources, and on some with numbers, bits, loops that count, constants, calls, tasks, groups, cells,
-inline functions, parallel loops, calls inside values, widths, broken lines, `min`, `max` and `abs`, statuses, names that hide others, and
-params that are given numbers, at their edges: what both make is rehearsed on drawn schedules, and what `arena-compile --serial` prints must
+inline functions, parallel loops, calls inside values, widths, broken lines, `min`, `max` and `abs`, statuses, names that hide others,
+params that are given numbers, and tasks without a name, at their edges: what both make is rehearsed on drawn schedules, and what `arena-compile --serial` prints must
 be the line of the interpreter's value. Of the examples in examples/jobs those that it takes must give what they say. Sources with
 faults must be refused at the first one. The last line says how many.
 
@@ -40,6 +40,7 @@ from giving_sources import GIVING, given_in, given_to  # noqa: E402
 from group_sources import GROUPS  # noqa: E402
 from hiding_sources import HIDING  # noqa: E402
 from inline_sources import INLINES  # noqa: E402
+from nameless_sources import NAMELESS  # noqa: E402
 from parallel_sources import PARALLEL  # noqa: E402
 from reference import TooLong, interpreted  # noqa: E402
 from refused_places import REFUSED  # noqa: E402
@@ -274,7 +275,7 @@ def main(seed: int = 1, programs: int = 400) -> list[str]:
     found += [said for source, arguments in shared if (said := difference(program, source, arguments, draws, Counter()))]
     found += [said for source, arguments in (*PACKED, *FURTHER, *CANCELED) if (said := packed_difference(program, source, arguments, draws))]
     found += [said for source, arguments, givens in GIVING if (said := difference(program, source, arguments, draws, Counter(), givens=givens))]
-    found += [said for source, arguments, cells in SHARING if (said := difference(program, source, arguments, draws, Counter(), cells))]
+    found += [said for source, arguments, cells in (*SHARING, *NAMELESS) if (said := difference(program, source, arguments, draws, Counter(), cells))]
     found += [said for source, arguments in FITTING if (said := fitting_difference(program, source, arguments, draws))]
     found += [said for source in CROWDED if (said := crowded_difference(program, source))]
     found += example_differences(program, draws)
@@ -290,7 +291,7 @@ def main(seed: int = 1, programs: int = 400) -> list[str]:
         print(f"too many programs are refused for registers: {seen['registers']}")
     shown = ", ".join(f"{count} {kind}" for kind, count in sorted(seen.items()))
     print(f"{programs} sources by two compilers ({shown}), {len(BITS)} with bits, {len(COUNTING)} that count, {len(CALLING)} that call, "
-          f"{len(WAITING)} that wait, {len(GROUPS)} with groups, {len(INLINES)} with inline functions, {len(PARALLEL)} with parallel loops, {len(ASKING)} with calls and the like inside values, {len(WIDTHS) + len(PACKED) + len(shared)} with widths, {len(BROKEN) + len(FURTHER)} with broken lines, {len(BUILT_IN)} with min, max and abs, {len(STATUSES) + len(CANCELED)} with statuses, {len(HIDING)} that hide names, {len(GIVING)} whose params are given numbers, {len(SHARING)} that share, {len(FITTING)} that just fit, {len(TAKEN)} of the examples, {len(REFUSED)} refused: {len(found)} differences")
+          f"{len(WAITING)} that wait, {len(GROUPS)} with groups, {len(INLINES)} with inline functions, {len(PARALLEL)} with parallel loops, {len(ASKING)} with calls and the like inside values, {len(WIDTHS) + len(PACKED) + len(shared)} with widths, {len(BROKEN) + len(FURTHER)} with broken lines, {len(BUILT_IN)} with min, max and abs, {len(STATUSES) + len(CANCELED)} with statuses, {len(HIDING)} that hide names, {len(GIVING)} whose params are given numbers, {len(NAMELESS)} with tasks without a name, {len(SHARING)} that share, {len(FITTING)} that just fit, {len(TAKEN)} of the examples, {len(REFUSED)} refused: {len(found)} differences")
     return found or rare
 
 

@@ -12,6 +12,7 @@ use Rattle.source_reader.specs.Layouts.{has_room, with_one, nothing_taken}
 use Rattle.source_reader.specs.Lines.{after_comma, free_name}
 use Rattle.source_reader.specs.Marks.{is_close}
 use Rattle.source_reader.specs.Names.{Scope, WithName, number_after}
+use Rattle.source_reader.specs.Nameless.{nameless_in, with_nameless}
 use Rattle.source_reader.specs.Simple.{ReadStmt}
 use Rattle.source_reader.specs.Statements.{Block, stmt_at}
 use Rattle.source_reader.specs.Widths.{width_in}
@@ -32,8 +33,9 @@ width_at root ts = width_or root (width_in ts) ts
 abbrev pub with_parameter : Taken → (bits : ℕ) → List Token → Result Taken Fault
 with_parameter t b ts = if has_room t.first b || has_room t.second b then Ok (with_one t b) else Err (fault_at ts wrong.NoRoom)
 
+-- the body of a function, or that of a parallel loop
 abbrev pub body_at : Scope → List Token → ReadStmt
-body_at names ts = stmt_at BODY_FUEL names (Block false) ts
+body_at names ts = nameless_in names ts >>= λ t. stmt_at BODY_FUEL (with_nameless t names) (Block false) ts
 
 -- behind a parameter
 abbrev pub behind_parameter : (Scope → ℕ → Taken → List Token → ReadStmt) → Scope → (variable : ℕ) → Taken → List Token → ReadStmt

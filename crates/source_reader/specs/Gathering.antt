@@ -1,12 +1,13 @@
 -- The functions of parallel loops, behind those of the source, in the order of their words.
-use Rattle.std.specs.Prelude.{ℕ, ◌||◌, nat_lt, List, [], ◌∷◌, ◌++◌, length, false, Option, Some, None, Result, Ok, Err, if◌then◌else◌}
+use Rattle.std.specs.Prelude.{ℕ, ◌||◌, nat_lt, List, [], ◌∷◌, ◌++◌, length, Option, Some, None, Result, Ok, Err, if◌then◌else◌}
 use Rattle.source_tokens.specs.declared.tokens.Gathers.{Gathers}
 use Rattle.source_tokens.specs.declared.tokens.Token.{Token}
 use Rattle.source_reader.specs.declared.faults.Fault.{Fault}
 use Rattle.source_reader.specs.declared.faults.Wrong.TheVariants as wrong
-use Rattle.source_reader.specs.declared.functions.TheConstants.{BODY_FUEL, FUNCTIONS}
+use Rattle.source_reader.specs.declared.functions.TheConstants.{FUNCTIONS}
 use Rattle.source_reader.specs.declared.halving.TheConstants.{LOW, VARIABLES}
 use Rattle.source_reader.specs.declared.names.Meaning.TheVariants as meaning
+use Rattle.source_reader.specs.Bodies.{body_at}
 use Rattle.source_reader.specs.Constants.{is_step_of}
 use Rattle.source_reader.specs.Faults.{◌>>=◌, fault_at}
 use Rattle.source_reader.specs.Functions.{larger, variables_of}
@@ -15,7 +16,6 @@ use Rattle.source_reader.specs.Headers.{gathers_of}
 use Rattle.source_reader.specs.Lines.{free_name}
 use Rattle.source_reader.specs.Names.{Scope, WithName, Gathering}
 use Rattle.source_reader.specs.Ranges.{is_grain_of, is_begin, grain_at, distance_at}
-use Rattle.source_reader.specs.Statements.{Block, stmt_at}
 use Rattle.source_reader.specs.Trees.{FunctionTree}
 
 -- what follows the range: `step`, `grain`, or the block
@@ -29,7 +29,7 @@ gathering_at g names p ts = do
   i ← free_name names ts
   by ← distance_at names (head_end ts)
   grain ← grain_at names by.1
-  body ← stmt_at BODY_FUEL (Gathering g (WithName i (meaning.Counter LOW) names)) (Block false) grain.1
+  body ← body_at (Gathering g (WithName i (meaning.Counter LOW) names)) grain.1
   Ok (record { variables = larger VARIABLES (variables_of body.0); body = gathered g p grain.0 by.0 body.0 })
 
 abbrev pub one_gathering : Scope → Option Gathers → List FunctionTree → (ts rest : List Token) → Result (List FunctionTree) Fault

@@ -10,13 +10,14 @@ use Rattle.source_reader.specs.declared.names.Meaning.{Meaning}
 use Rattle.source_reader.specs.declared.names.Meaning.TheVariants as meaning
 use Rattle.source_reader.specs.declared.names.Task.{Task}
 use Rattle.source_reader.specs.declared.names.TaskGroup.{TaskGroup}
+use Rattle.source_reader.specs.declared.names.TheConstants.{NAMELESS}
 use Rattle.source_reader.specs.Faults.{◌>>=◌, fault_at}
 use Rattle.source_reader.specs.Names.{Scope, meaning_of}
 use Rattle.source_reader.specs.Tasks.{group_number, free_group}
 use Rattle.source_reader.specs.Trees.{StmtTree, SkipTree, CancelTree}
 use Rattle.source_reader.specs.Lines.{free_name}
 use Rattle.source_reader.specs.Calls.{run_at}
-use Rattle.source_reader.specs.Marks.{unexpected}
+use Rattle.source_reader.specs.Marks.{unexpected, is_open}
 use Rattle.source_reader.specs.Statuses.{group_awaited}
 use Rattle.source_reader.specs.Widths.{is_comma}
 
@@ -109,12 +110,22 @@ group_at names ts = do
   g ← free_group names ts
   Ok (SkipTree, drop 1 ts)
 
--- behind `spawn`, where no task has a name: `g: f(v, w)`
+-- behind `spawn`: `f(v, w)`, for which the function has a group
+abbrev pub nameless_at : Scope → List Token → Result (StmtTree × List Token) Fault
+nameless_at names ts = do
+  g ← open_group (meaning_of NAMELESS names) ts
+  run_at names (run.Spawn g) ts
+
+-- behind `spawn`: `g: f(v, w)`
 abbrev pub into_at : Scope → List Token → Result (StmtTree × List Token) Fault
 into_at names ts = do
   g ← open_group_at names ts
   rest ← after_colon (drop 1 ts)
   run_at names (run.Spawn g) rest
+
+-- behind `spawn`, where no task has a name
+abbrev pub spawned_at : Scope → List Token → Result (StmtTree × List Token) Fault
+spawned_at names ts = if is_open (drop 1 ts) then nameless_at names ts else into_at names ts
 
 -- behind `cancel`
 abbrev pub cancel_at : Scope → List Token → Result (StmtTree × List Token) Fault

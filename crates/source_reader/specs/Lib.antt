@@ -31,6 +31,7 @@ pub mod Counting
 pub mod Halving
 pub mod Giving
 pub mod Statements
+pub mod Nameless
 pub mod Bodies
 pub mod Functions
 pub mod Gathering

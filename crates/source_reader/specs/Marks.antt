@@ -26,6 +26,14 @@ abbrev pub after_close : List Token → Result (List Token) Fault
 after_close [] = unexpected []
 after_close (t ∷ ts) = after_close_of t.kind ts (t ∷ ts)
 
+abbrev pub is_open_of : Kind → Bool
+is_open_of kind.Open = true
+is_open_of k = false
+
+abbrev pub is_open : List Token → Bool
+is_open [] = false
+is_open (t ∷ ts) = is_open_of t.kind
+
 abbrev pub is_close_of : Kind → Bool
 is_close_of kind.Close = true
 is_close_of k = false

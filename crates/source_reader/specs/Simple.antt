@@ -11,7 +11,8 @@ use Rattle.source_reader.specs.declared.names.Meaning.{Meaning}
 use Rattle.source_reader.specs.declared.names.Meaning.TheVariants as meaning
 use Rattle.source_reader.specs.declared.simple.Count.{Count}
 use Rattle.source_reader.specs.declared.tasks.Reach.TheVariants as reach
-use Rattle.source_reader.specs.Names.{Scope, Inner, new_number, number_behind}
+use Rattle.source_reader.specs.declared.names.TheConstants.{NAMELESS}
+use Rattle.source_reader.specs.Names.{Scope, Inner, meaning_of, new_number, number_behind}
 use Rattle.source_reader.specs.declared.names.TaskGroup.{TaskGroup}
 use Rattle.source_reader.specs.Tasks.{group_number, pending_task}
 use Rattle.source_reader.specs.Waits.{awaited_at}
@@ -106,9 +107,15 @@ wait_from None names ts = awaited_at names ts >>= λ v. Ok (SkipTree, drop 1 ts)
 abbrev pub wait_at : Scope → List Token → ReadStmt
 wait_at names ts = wait_from (own_group_at names ts) names ts
 
--- `sync`, which is the first of the tokens, behind its waits: the blocks around have no task that was not waited for.
+-- the wait for the tasks of the function that have no name and no group, if it has some
+abbrev pub nameless_waited : Option Meaning → StmtTree
+nameless_waited (Some (meaning.Task t)) = WaitTree None None (group_number t.group)
+nameless_waited (Some (meaning.OuterTask t)) = WaitTree None None (group_number t.group)
+nameless_waited m = SkipTree
+
+-- `sync`, which is the first of the tokens, behind its waits for tasks that have names: the blocks around have none that was not waited for.
 abbrev pub sync_at : Scope → (ts rest : List Token) → ReadStmt
-sync_at names ts rest = if is_none (pending_task reach.Function names) then Ok (SkipTree, rest) else Err (fault_at ts wrong.WaitSkipped)
+sync_at names ts rest = if is_none (pending_task reach.Function names) then Ok (nameless_waited (meaning_of NAMELESS names), rest) else Err (fault_at ts wrong.WaitSkipped)
 
 -- A region alone: its value goes to one more variable, which nothing reads.
 abbrev pub region_at : Scope → List Token → ReadStmt

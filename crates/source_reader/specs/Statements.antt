@@ -19,7 +19,7 @@ use Rattle.source_reader.specs.Questions.{asked_again}
 use Rattle.source_reader.specs.Lines.{leaves, after_begin, after_line_ends, ended, after_end, after_else, let_name, if_in_loop, is_if}
 use Rattle.source_reader.specs.declared.calls.Run.TheVariants as run
 use Rattle.source_reader.specs.Calls.{run_at, is_spawn}
-use Rattle.source_reader.specs.Groups.{gathered, group_at, into_at, cancel_at}
+use Rattle.source_reader.specs.Groups.{gathered, group_at, spawned_at, cancel_at}
 use Rattle.source_reader.specs.Simple.{ReadStmt, given_at, condition_at, count_at, let_at, assigned_at, wait_at, sync_at, region_at}
 use Rattle.source_reader.specs.Counting.{counting_loop}
 use Rattle.source_reader.specs.Giving.{group_given, behind_group, give_at, return_in}
@@ -136,7 +136,7 @@ line_of next names in_loop kind.Isolate rest ts = region_at names ts
 line_of next names in_loop kind.Post rest ts = run_at names run.Post rest
 line_of next names in_loop kind.Wait rest ts = wait_at names rest
 line_of next names in_loop kind.Group rest ts = group_at names rest
-line_of next names in_loop kind.Spawn rest ts = into_at names rest
+line_of next names in_loop kind.Spawn rest ts = spawned_at names rest
 line_of next names in_loop kind.Cancel rest ts = cancel_at names rest
 line_of next names in_loop kind.Sync rest ts = sync_at names ts rest
 line_of next names in_loop kind.Break rest ts = if_in_loop in_loop (leaving reach.Loop names (BreakTree 0)) rest ts

@@ -10,7 +10,8 @@ use crate::functions::BODY_FUEL;
 use crate::layouts::{Taken, have_room, nothing_taken, with_one};
 use crate::lines::{after_comma, free_name};
 use crate::marks::{after_first, is_close};
-use crate::names::{Meaning, Names, number_after};
+use crate::nameless::nameless_in;
+use crate::names::{Meaning, NAMELESS, Names, number_after};
 use crate::statements::block_at;
 use crate::widths::{MOST_PARAMETERS, width_in};
 use source_language::Stmt;
@@ -44,8 +45,8 @@ fn with_parameter(taken: Taken, bits: u8, tokens: &[Token]) -> Result<Taken, Rea
     }
 }
 
-/// The body of a function whose parameters are among these names.
-fn body_at<'a>(
+/// The body of a function whose parameters are among these names, or that of a parallel loop.
+pub(crate) fn body_at<'a>(
     alloc: Global,
     names: &Names,
     tokens: &'a [Token],
@@ -53,7 +54,13 @@ fn body_at<'a>(
     ensures { Gives (λ x. (stmt_tree_of x.0, x.1.now)) result
         (body_at (names_of names.now) tokens.entry.now) }
 {
-    block_at(alloc, names, false, BODY_FUEL, tokens)
+    match nameless_in(names, tokens)? {
+        Some(task) => {
+            let inner = Names::Name(NAMELESS, Meaning::Task(task), &*names);
+            block_at(alloc, &inner, false, BODY_FUEL, tokens)
+        }
+        None => block_at(alloc, names, false, BODY_FUEL, tokens),
+    }
 }
 
 /// So many parameters more at most, from that variable on, and the body.

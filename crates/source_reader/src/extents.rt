@@ -113,7 +113,7 @@ fn if_alone(names: &Names, tokens: &[Token]) -> usize
     }
 }
 
-fn is_set(kind: Kind) -> bool
+pub(crate) fn is_set(kind: Kind) -> bool
     ensures { result ≡ is_set kind }
 {
     match kind {

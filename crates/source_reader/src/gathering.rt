@@ -5,15 +5,15 @@ ghost use Rattle.source_reader.specs.Gathering.{head_end, gathering_at, one_gath
 ghost use Rattle.source_reader.specs.Names.{names_of};
 ghost use Rattle.source_reader.specs.Trees.{function_tree_of};
 
+use crate::bodies::body_at;
 use crate::constants::is_step_of;
 use crate::faults::{ReadError, Wrong, fault_at};
-use crate::functions::{BODY_FUEL, FUNCTIONS, larger, variables_of, with_function};
+use crate::functions::{FUNCTIONS, larger, variables_of, with_function};
 use crate::halving::{LOW, VARIABLES, gathered};
 use crate::headers::gathers_of;
 use crate::lines::free_name;
 use crate::names::{Meaning, Names};
 use crate::ranges::{distance_at, grain_at, is_begin, is_grain_of};
-use crate::statements::block_at;
 use source_language::Function;
 use source_tokens::{Gathers, Token};
 use std::alloc::Global;
@@ -48,7 +48,7 @@ fn gathering_at(
     let (most, block) = grain_at(alloc, names, rest)?;
     let named = Names::Name(index, Meaning::Counter(LOW), names);
     let inner = Names::Gathering(gathers, &named);
-    let (body, _) = block_at(alloc, &inner, false, BODY_FUEL, block)?;
+    let (body, _) = body_at(alloc, &inner, block)?;
     let variables = larger(VARIABLES, variables_of(&body));
     let body = gathered(alloc, gathers, number, most, by, body)?;
     Ok(Function { variables, body })

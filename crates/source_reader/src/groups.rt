@@ -1,15 +1,15 @@
 // Groups that have names: any number of tasks, which are waited for at once.
 ghost use Rattle.std.specs.Prelude.{◌≡◌};
 ghost use Rattle.source_reader.specs.Faults.{Gives};
-ghost use Rattle.source_reader.specs.Groups.{if_group, own_group, own_group_at, waited_group, let_gathered, gathered, into_group, open_group, open_task, open_group_at, open_task_at, after_colon, group_at, into_at, cancel_at};
+ghost use Rattle.source_reader.specs.Groups.{if_group, own_group, own_group_at, waited_group, let_gathered, gathered, into_group, open_group, open_task, open_group_at, open_task_at, after_colon, group_at, nameless_at, into_at, spawned_at, cancel_at};
 ghost use Rattle.source_reader.specs.Names.{names_of};
 ghost use Rattle.source_reader.specs.Trees.{stmt_tree_of};
 
 use crate::calls::{Run, run_at};
 use crate::faults::{ReadError, Wrong, fault_at};
 use crate::lines::free_name;
-use crate::marks::after_first;
-use crate::names::{Meaning, Names, Task, TaskGroup, meaning_of};
+use crate::marks::{after_first, is_open};
+use crate::names::{Meaning, NAMELESS, Names, Task, TaskGroup, meaning_of};
 use crate::statuses::group_awaited;
 use crate::tasks::{free_group, group_of};
 use crate::widths::is_comma;
@@ -168,8 +168,21 @@ pub(crate) fn group_at<'a>(
     Ok((Stmt::Skip, after_first(tokens)))
 }
 
+/// `f(v, w)`, behind `spawn`. The function has a group for such tasks.
+fn nameless_at<'a>(
+    alloc: Global,
+    names: &Names,
+    tokens: &'a [Token],
+) -> Result<(Stmt, &'a [Token]), ReadError>
+    ensures { Gives (λ x. (stmt_tree_of x.0, x.1.now)) result
+        (nameless_at (names_of names.now) tokens.entry.now) }
+{
+    let group = open_group(meaning_of(NAMELESS, names), tokens)?;
+    run_at(alloc, names, Run::Spawn(group), tokens)
+}
+
 /// `g: f(v, w)`, behind `spawn`.
-pub(crate) fn into_at<'a>(
+fn into_at<'a>(
     alloc: Global,
     names: &Names,
     tokens: &'a [Token],
@@ -180,6 +193,22 @@ pub(crate) fn into_at<'a>(
     let group = open_group_at(names, tokens)?;
     let rest = after_colon(after_first(tokens))?;
     run_at(alloc, names, Run::Spawn(group), rest)
+}
+
+/// A task that has no name, behind `spawn`.
+pub(crate) fn spawned_at<'a>(
+    alloc: Global,
+    names: &Names,
+    tokens: &'a [Token],
+) -> Result<(Stmt, &'a [Token]), ReadError>
+    ensures { Gives (λ x. (stmt_tree_of x.0, x.1.now)) result
+        (spawned_at (names_of names.now) tokens.entry.now) }
+{
+    if is_open(after_first(tokens)) {
+        nameless_at(alloc, names, tokens)
+    } else {
+        into_at(alloc, names, tokens)
+    }
 }
 
 /// `cancel g`, behind the word.

@@ -28,6 +28,7 @@ mod layouts;
 mod lines;
 mod loops;
 mod marks;
+mod nameless;
 mod names;
 mod operands;
 mod parameters;

@@ -1,7 +1,7 @@
 // Parentheses and commas around values.
 ghost use Rattle.std.specs.Prelude.{◌≡◌, ◌-◌, drop, length};
 ghost use Rattle.source_reader.specs.Faults.{Gives};
-ghost use Rattle.source_reader.specs.Marks.{after_open, after_close, is_close, after_last, before_next};
+ghost use Rattle.source_reader.specs.Marks.{after_open, after_close, is_open, is_close, after_last, before_next};
 
 use crate::faults::{ReadError, Wrong, fault_at};
 use source_tokens::{Kind, Token};
@@ -48,6 +48,19 @@ pub(crate) fn left_behind(tokens: &[Token], left: usize) -> &[Token]
 {
     let gone = tokens.len().saturating_sub(left);
     tokens.split_at(gone).1
+}
+
+/// Whether there is a `(` at the front.
+pub(crate) fn is_open(tokens: &[Token]) -> bool
+    ensures { result ≡ is_open tokens.now }
+{
+    match tokens.split_first() {
+        Some((first, _)) => match first.kind {
+            Kind::Open => true,
+            _ => false,
+        },
+        None => false,
+    }
 }
 
 /// Whether there is a `)` at the front.

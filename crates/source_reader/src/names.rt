@@ -12,6 +12,10 @@ use crate::inlines::Inline;
 use job_language::Key;
 use source_tokens::{Gathers, Token};
 
+/// What stands for the group of tasks that have no name and no group of their own: no text has so many lexemes that a name
+/// could be this one.
+pub const NAMELESS: usize = usize::MAX;
+
 /// A group of tasks that have names. The fourth is that of calls, too.
 #[derive(Clone, Copy)]
 pub(crate) enum TaskGroup {

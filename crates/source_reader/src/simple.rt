@@ -3,7 +3,7 @@ ghost use Rattle.std.specs.Prelude.{◌≡◌};
 ghost use Rattle.source_reader.specs.Faults.{Gives};
 ghost use Rattle.source_reader.specs.Trees.{stmt_tree_of, test_tree_of, value_tree_of};
 ghost use Rattle.source_reader.specs.Names.{names_of, meaning_of, new_number};
-ghost use Rattle.source_reader.specs.Simple.{condition_at, new_name, given_at, let_at, updated, assigned_to, assigned_at, declared_at, wait_at, sync_at, region_at, view_count, count_at};
+ghost use Rattle.source_reader.specs.Simple.{condition_at, new_name, given_at, let_at, updated, assigned_to, assigned_at, declared_at, wait_at, nameless_waited, sync_at, region_at, view_count, count_at};
 
 use crate::calls::{Run, is_spawn, run_at, spawn_at};
 use crate::cells::store_at;
@@ -14,7 +14,7 @@ use crate::groups::own_group_at;
 use crate::joining::{Value, arithmetic, test_in};
 use crate::lines::{after_in, after_range, after_set, free_name};
 use crate::marks::after_first;
-use crate::names::{Meaning, Names, meaning_of, new_number, number_behind};
+use crate::names::{Meaning, NAMELESS, Names, meaning_of, new_number, number_behind};
 use crate::statuses::status_at;
 use crate::tasks::{Reach, group_of, pending_task};
 use crate::trees::assigned;
@@ -178,7 +178,19 @@ pub(crate) fn wait_at<'a>(
     Ok((Stmt::Skip, after_first(tokens)))
 }
 
-/// `sync`, which is the first of the tokens. Its waits stand before it, and the blocks around have no task to wait for.
+/// The wait for the tasks of the function that have no name and no group, if it has some.
+fn nameless_waited(meaning: Option<Meaning>) -> Stmt
+    ensures { stmt_tree_of result ≡ nameless_waited meaning }
+{
+    match meaning {
+        Some(Meaning::Task(task)) => Stmt::Wait(None, None, group_of(task.group)),
+        Some(Meaning::OuterTask(task)) => Stmt::Wait(None, None, group_of(task.group)),
+        _ => Stmt::Skip,
+    }
+}
+
+/// `sync`, which is the first of the tokens. Its waits for tasks that have names stand before it, and the blocks around have
+/// none to wait for.
 pub(crate) fn sync_at<'a>(
     names: &Names,
     tokens: &[Token],
@@ -188,7 +200,7 @@ pub(crate) fn sync_at<'a>(
         (sync_at (names_of names.now) tokens.now rest.entry.now) }
 {
     if pending_task(Reach::Function, names).is_none() {
-        Ok((Stmt::Skip, rest))
+        Ok((nameless_waited(meaning_of(NAMELESS, names)), rest))
     } else {
         Err(fault_at(tokens, Wrong::WaitSkipped))
     }

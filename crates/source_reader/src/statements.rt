@@ -11,7 +11,7 @@ use crate::declaring::declared_in;
 use crate::faults::{ReadError, Wrong, fault_at};
 use crate::givers::giver_at;
 use crate::giving::{give_at, group_given, return_in};
-use crate::groups::{cancel_at, gathered, group_at, into_at};
+use crate::groups::{cancel_at, gathered, group_at, spawned_at};
 use crate::lines::{after_begin, after_else, after_end, after_line_ends, ended, is_if, let_name};
 use crate::loops::{counting_loop, loop_left};
 use crate::marks::after_first;
@@ -186,7 +186,7 @@ fn line_at<'a>(
         Kind::Post => run_at(alloc, names, Run::Post, rest),
         Kind::Wait => wait_at(names, rest),
         Kind::Group => group_at(names, rest),
-        Kind::Spawn => into_at(alloc, names, rest),
+        Kind::Spawn => spawned_at(alloc, names, rest),
         Kind::Cancel => cancel_at(names, rest),
         Kind::Sync => sync_at(names, tokens, rest),
         Kind::Break => loop_left(alloc, names, in_loop, Stmt::Break(0), rest, tokens),
