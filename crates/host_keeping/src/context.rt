@@ -24,6 +24,7 @@ pub struct Progress {
 }
 
 impl Progress {
+    /// The host begins: nobody was served.
     pub fn new() -> Progress {
         Progress {
             is_stopping: AtomicBool::new(false),

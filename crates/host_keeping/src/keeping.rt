@@ -70,6 +70,7 @@ impl<J: Naming> Drop for Keeper<J> {
 }
 
 impl<J: Naming> Keeper<J> {
+    /// Of a host with so many workers, without a tenant.
     pub fn new(alloc: Global, workers: usize, filing: Filing) -> Keeper<J> {
         Keeper {
             workers,
@@ -81,6 +82,7 @@ impl<J: Naming> Keeper<J> {
         }
     }
 
+    /// The files of terms that are closed.
     pub fn filing(&self) -> &Filing {
         &self.filing
     }
