@@ -22,6 +22,7 @@ import levels
 import releases
 import requests
 import starts
+import turns
 from servers import FIB, HELLO, PATIENCE, SEVEN, Server, side_by_side, tenant
 
 
@@ -278,7 +279,7 @@ CHECKS = [job_is_executed_and_polled, workers_share_a_job, tenants_do_not_see_ea
           jobs_are_retired_round_after_round, jobs_are_retired_beside_clients_that_run_them,
           waiting_ends_at_a_full_history, executes_end_at_a_full_history, socket_may_be_gone_at_the_end,
           *dumps.CHECKS, *starts.CHECKS, *releases.CHECKS, *binding.CHECKS, *levels.CHECKS, *endings.CHECKS, *killed.CHECKS,
-          *gone.CHECKS, *busy.CHECKS]
+          *gone.CHECKS, *busy.CHECKS, *turns.CHECKS]
 
 
 def main() -> None:

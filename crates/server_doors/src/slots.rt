@@ -25,6 +25,16 @@ pub const SHORT_RUN: u32 = 64;
 /// How many moves of a slot after a short run are advances under the lock, before the slot is looked at again.
 pub const MOVES_UNDER_LOCK: u8 = 16;
 
+/// From how many moves on, beyond those that its private runs are worth, a thread and others that move so go on by turns.
+const MANY_MOVES: u32 = 32;
+
+/// How many such moves are counted at most: a thread whose private runs become long is soon at none.
+const MOST_MOVES: u32 = 64;
+
+/// How many instructions of a private run are worth a move: they take about as long as an entry where several threads
+/// take the lock by turns.
+const MOVE_WORTH: u32 = 256;
+
 // The height that a door may have is the one that a tenant's slot may have.
 const _: () = prove!(nested_wait::MAX_HEIGHT == tenant_model::MAX_HEIGHT as usize);
 
@@ -44,6 +54,9 @@ pub struct HeldSlot<'d, J: Naming, R: Wait> {
     /// How many of its next moves are advances under the lock, whatever its view is: its last private run was short, or
     /// nobody else was at a slot.
     under_lock: u8,
+    /// How many moves it has made at its slot, less what its private runs away from the lock were worth; `MOST_MOVES` at
+    /// most.
+    short_moves: u32,
 }
 
 impl<'d, J: Naming, R: Wait> Model for HeldSlot<'d, J, R> {
@@ -83,6 +96,7 @@ impl<'d, J: Naming, R: Wait> HeldSlot<'d, J, R> {
             height: None,
             view: Cell::new(View::Bare),
             under_lock: 0,
+            short_moves: 0,
         }
     }
 
@@ -165,7 +179,7 @@ impl<'d, J: Naming, R: Wait> SlotAccess for HeldSlot<'d, J, R> {
         };
         let tenant = pass.tenant();
         let (rt, doors) = (self.rt, self.doors);
-        let is_short = segment.run().count < SHORT_RUN;
+        let count = segment.run().count;
         let MovedAndSeen { advanced, height } = places::commit(
             rt,
             doors,
@@ -175,9 +189,10 @@ impl<'d, J: Naming, R: Wait> SlotAccess for HeldSlot<'d, J, R> {
             self.view.get_mut(),
         );
         let Advanced { moved, due, pass } = advanced;
+        self.short_moves = self.short_moves.saturating_sub(count / MOVE_WORTH);
         self.hold(pass);
         self.height = height;
-        if is_short || matches!(self.view.get_mut(), View::Unshared) {
+        if count < SHORT_RUN || matches!(self.view.get_mut(), View::Unshared) {
             self.under_lock = MOVES_UNDER_LOCK;
         }
         (moved, call_of(tenant, due))

@@ -16,6 +16,7 @@ mod reading;
 mod waiting;
 
 use crate::held::Held;
+use crate::moving_slot::MovingSlot;
 use crate::news::{Done, ToWake};
 use job_language::{Entry, MAX_SLOTS, Reply, Request, TenantConfig};
 use market_config::Call;
@@ -53,6 +54,7 @@ pub struct TenantDoor<J: Naming> {
     outcomes: Condvar,
     /// How many jobs were made. Nothing that is answered depends on it.
     jobs: AtomicU64,
+    moving: MovingSlot,
 }
 
 impl<J: Naming> Drop for TenantDoor<J> {
@@ -67,6 +69,7 @@ impl<J: Naming> Drop for TenantDoor<J> {
             at_slots: _at_slots,
             outcomes: _outcomes,
             jobs: _jobs,
+            moving: _moving,
         } = self;
     }
 }
@@ -111,6 +114,7 @@ impl<J: Naming> TenantDoor<J> {
             at_slots: array::from_fn(|_slot| Condvar::new()),
             outcomes: Condvar::new(),
             jobs: AtomicU64::new(0),
+            moving: MovingSlot::new(),
         };
         Ok((door, all_seats))
     }

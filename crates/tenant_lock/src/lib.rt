@@ -9,6 +9,7 @@ mod doors;
 mod faults;
 mod held;
 mod looks;
+mod moving_slot;
 mod news;
 mod seat_logs;
 mod stop_flag;

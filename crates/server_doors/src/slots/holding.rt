@@ -3,7 +3,7 @@ ghost use Rattle.std.specs.Prelude.{◌≡◌, ◌<◌, length, IfSome, None};
 ghost use Rattle.server_doors.specs.Slots.{AreFronts};
 ghost use Rattle.server_doors.specs.SlotWays.{GoesHome};
 
-use super::HeldSlot;
+use super::{HeldSlot, MANY_MOVES, MOST_MOVES};
 use crate::places;
 use job_step::View;
 use std::mem;
@@ -27,6 +27,7 @@ impl<'d, J: Naming, R: Wait> HeldSlot<'d, J, R> {
             height: _height,
             view: _view,
             under_lock: _under_lock,
+            short_moves: _short_moves,
         } = self;
         let mut fronts = fronts;
         if let Some(pass) = pass {
@@ -35,12 +36,19 @@ impl<'d, J: Naming, R: Wait> HeldSlot<'d, J, R> {
         fronts
     }
 
-    /// Takes a pass, if there is one. It has none.
+    /// Takes a pass, if there is one, after a move. It has none. Where many of its moves were short, another slot that is
+    /// moved so may go on first.
     pub(super) fn hold(&mut self, pass: Option<Pass>)
         requires none { self.old.pass ≡ None }
         requires there { IfSome pass (λ p. p.tenant < length self.old.doors) }
         ensures { self.new ≡ record self.old { pass = pass } }
     {
+        self.short_moves = self.short_moves.saturating_add(1).min(MOST_MOVES);
+        if let Some(pass) = &pass
+            && self.short_moves >= MANY_MOVES
+        {
+            self.doors[pass.tenant()].give_way(pass);
+        }
         if let Some(left) = mem::replace(&mut self.pass, pass) {
             places::give_home(self.rt, self.doors, &mut self.fronts, left);
         }
@@ -55,6 +63,7 @@ impl<'d, J: Naming, R: Wait> HeldSlot<'d, J, R> {
         if pass.is_some() {
             self.height = Some(1);
         }
+        self.short_moves = 0;
         self.hold(pass);
     }
 

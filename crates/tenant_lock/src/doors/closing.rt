@@ -36,6 +36,7 @@ impl<J: Naming> TenantDoor<J> {
             at_slots: _at_slots,
             outcomes: _outcomes,
             jobs: _jobs,
+            moving: _moving,
         } = self;
         let held = of_life(rt, held.into_inner(), first.life());
         held.meet_all(rt, fronts);
