@@ -30,6 +30,7 @@ from built_in_sources import BUILT_IN  # noqa: E402
 from calling_sources import CALLING  # noqa: E402
 from core_sources import Sources  # noqa: E402
 from counting_sources import COUNTING  # noqa: E402
+from arena.assembler import assemble  # noqa: E402
 from arena.jobs import Job  # noqa: E402
 from arena.language import SourceFault, compile_source  # noqa: E402
 from arena.language.examples import examples_of, unit_of  # noqa: E402
@@ -50,10 +51,14 @@ from unproved import built  # noqa: E402
 from waiting_sources import WAITING  # noqa: E402
 from width_sources import PACKED, WIDTHS, drawn_source  # noqa: E402
 
-CROWD = "this function needs more than 8 registers: `let` inner values be variables, or another fn do a part"
-LIMITS = {CROWD: "registers", "this function is too long for a procedure": "instructions",
-          "needs more than 8 registers": "registers", "a procedure has at most": "instructions"}
-"""What is said of a function that can't be compiled, by either, and what it has too many of."""
+CROWD = "{} needs more than 8 registers, and there is no memory to put one into; at once alive are {}: let another fn do a part, or compute a value where it is needed"
+"""What is said of a function that needs more registers than there are: what it is called, and what is alive."""
+
+LIMITS = {CROWD.format(r"(\w+|this p(sum|min|max))", r"[\w, ]+"): "registers", "this function is too long for a procedure": "instructions"}
+"""What arena-compile says of a function that can't be compiled, as patterns, and what it has too many of."""
+
+PYTHON_LIMITS = {"needs more than 8 registers": "registers", "a procedure has at most": "instructions"}
+"""The same of the compiler in Python, where it is a part of what is said."""
 
 TOO_LONG = ": what begins here is too long, or nested too deep\n"
 
@@ -114,7 +119,13 @@ BREAKING = 0.3
 GIVEN = 0.5
 """In which share of the programs params are given numbers."""
 
-MOST_CROWDED = 0.05
+LISTED = 0.2
+"""Of which share of the programs a listing is looked at."""
+
+PROC = re.compile(r"^proc \S+    ; \d+$", re.MULTILINE)
+"""The line of a procedure in a listing."""
+
+MOST_CROWDED = 0.03
 """Which share of the programs may be refused for registers."""
 
 
@@ -157,7 +168,7 @@ def of_python(source: str, arguments: tuple[int, int], draws: random.Random, giv
     try:
         return ended(compile_source(source, parameters=givens, args=arguments).job.to_value(), draws)
     except SourceFault as fault:
-        return next((kind for words, kind in LIMITS.items() if words in fault.message), f"refused: {fault}")
+        return next((kind for words, kind in PYTHON_LIMITS.items() if words in fault.message), f"refused: {fault}")
 
 
 def difference(program: str, source: str, arguments: tuple[int, int], draws: random.Random, seen: Counter[str],
@@ -172,7 +183,7 @@ def difference(program: str, source: str, arguments: tuple[int, int], draws: ran
     words = [*(word for name, number in givens.items() for word in ("-D", f"{name}={number}")), *arguments]
     status, output, said = compiled(program, source, *words)
     heads = [f"{number}:{it.start() + 1}" for number, line in enumerate(source.splitlines(), 1) for it in HEAD.finditer(line)]
-    limit = next((kind for head in heads for words, kind in LIMITS.items() if status == 1 and said == f"{head}: {words}\n"), "")
+    limit = next((kind for head in heads for words, kind in LIMITS.items() if status == 1 and re.fullmatch(f"{head}: {words}\n", said)), "")
     if status == 1 and "inline fn" in source and said.endswith(TOO_LONG):
         limit = "operators"
     if limit:
@@ -184,7 +195,7 @@ def difference(program: str, source: str, arguments: tuple[int, int], draws: ran
     seen["fault" if wanted is None else "complete"] += 1
     if cells is None:
         cells = python.cells if isinstance(python, Ended) else found.cells
-    if found != Ended(wanted, cells) or python not in (found, *LIMITS.values()):
+    if found != Ended(wanted, cells) or python not in (found, *PYTHON_LIMITS.values()):
         return f"{found}, in Python {python}, and not {wanted} with {cells}, of {words}:\n{source}"
     return serial_difference(program, source, words, reply_of(wanted) if Job.from_value(json.loads(output)).is_serial() else "")
 
@@ -204,10 +215,10 @@ def fitting_difference(program: str, source: str, arguments: tuple[int, int], dr
     return said or (f"refused, of arguments {arguments}:\n{source}" if not seen["complete"] else "")
 
 
-def crowded_difference(program: str, source: str) -> str:
-    """What is wrong with a source whose function needs a register more than there are, if something is."""
-    said = compiled(program, source)
-    return "" if said == (1, "", f"1:1: {CROWD}\n") else f"{said}, and no crowd:\n{source}"
+def crowded_difference(program: str, source: str, place: str, title: str, alive: str) -> str:
+    """What is wrong with what is said of a source whose function needs a register more than there are, if something is."""
+    said, wanted = compiled(program, source), f"{place}: {CROWD.format(title, alive)}\n"
+    return "" if said == (1, "", wanted) else f"{said}, and not {wanted}:\n{source}"
 
 
 def packed_difference(program: str, source: str, arguments: tuple[int, int], draws: random.Random) -> str:
@@ -215,6 +226,24 @@ def packed_difference(program: str, source: str, arguments: tuple[int, int], dra
     status, output, said = compiled(program, source, *arguments)
     found, python = said if status else ended(json.loads(output), draws), of_python(source, arguments, draws)
     return "" if found == python else f"{found}, and in Python {python}, of arguments {arguments}:\n{source}"
+
+
+def listing_difference(program: str, source: str, draws: random.Random) -> str:
+    """What is wrong with a listing, if something is: assembled it has to be the same program, by the names that the compiler in
+    Python gives the procedures; `draws` say which sources are listed."""
+    if draws.random() > LISTED:
+        return ""
+    status, output, _ = compiled(program, source)
+    if status:
+        return ""
+    status, listing, said = compiled(program, source, "--listing", 1)
+    job, other = Job.from_value(json.loads(output)), compile_source(source)
+    if status or assemble(listing).procedures != job.procedures:
+        return f"status {status}, {said or listing}, and not the listing of {output}:\n{source}"
+    if (first := listing.splitlines()[0]) != f"; {'a' if job.is_serial() else 'not a'} serial job":
+        return f"{first}, of\n{source}"
+    names, wanted = PROC.findall(listing), PROC.findall(other.listing())
+    return "" if names == wanted else f"procedures {names}, and not {wanted}, of\n{source}"
 
 
 def example_differences(program: str, draws: random.Random) -> list[str]:
@@ -262,13 +291,14 @@ def main(seed: int = 1, programs: int = 400) -> list[str]:
     """Compares programs, and returns what differs."""
     proved = TOP / "crates" / "compile_program" / "out" / "compile_program"
     program = str(proved if proved.exists() else built("arena-compile"))
-    draws, seen, found = random.Random(seed), Counter[str](), []
+    draws, listed, seen, found = random.Random(seed), random.Random(seed), Counter[str](), []
     sources = Sources(draws)
     for _ in range(programs):
         source = sources.source()
         source, arguments = broken(source, draws) if draws.random() < BREAKING else source, (draws.randint(-5, 9), draws.randint(-5, 9))
         givens = given_to(source, draws) if draws.random() < GIVEN else {}
         said = difference(program, source, arguments, draws, seen, givens=givens)
+        said = said or listing_difference(program, source, listed)
         found += [said] if said else []
     found += [said for source, arguments in (*BITS, *COUNTING, *CALLING, *WAITING, *GROUPS, *INLINES, *PARALLEL, *ASKING, *WIDTHS, *BROKEN, *BUILT_IN, *STATUSES, *HIDING) if (said := difference(program, source, arguments, draws, Counter()))]
     shared = [drawn_source(draws) for _ in range(max(1, programs // 8))]
@@ -277,7 +307,7 @@ def main(seed: int = 1, programs: int = 400) -> list[str]:
     found += [said for source, arguments, givens in GIVING if (said := difference(program, source, arguments, draws, Counter(), givens=givens))]
     found += [said for source, arguments, cells in (*SHARING, *NAMELESS) if (said := difference(program, source, arguments, draws, Counter(), cells))]
     found += [said for source, arguments in FITTING if (said := fitting_difference(program, source, arguments, draws))]
-    found += [said for source in CROWDED if (said := crowded_difference(program, source))]
+    found += [said for crowded in CROWDED if (said := crowded_difference(program, *crowded))]
     found += example_differences(program, draws)
     found += [said for source, place in REFUSED if (said := refused_difference(program, source, place))]
     found += wrong_replies(program)
@@ -291,7 +321,7 @@ def main(seed: int = 1, programs: int = 400) -> list[str]:
         print(f"too many programs are refused for registers: {seen['registers']}")
     shown = ", ".join(f"{count} {kind}" for kind, count in sorted(seen.items()))
     print(f"{programs} sources by two compilers ({shown}), {len(BITS)} with bits, {len(COUNTING)} that count, {len(CALLING)} that call, "
-          f"{len(WAITING)} that wait, {len(GROUPS)} with groups, {len(INLINES)} with inline functions, {len(PARALLEL)} with parallel loops, {len(ASKING)} with calls and the like inside values, {len(WIDTHS) + len(PACKED) + len(shared)} with widths, {len(BROKEN) + len(FURTHER)} with broken lines, {len(BUILT_IN)} with min, max and abs, {len(STATUSES) + len(CANCELED)} with statuses, {len(HIDING)} that hide names, {len(GIVING)} whose params are given numbers, {len(NAMELESS)} with tasks without a name, {len(SHARING)} that share, {len(FITTING)} that just fit, {len(TAKEN)} of the examples, {len(REFUSED)} refused: {len(found)} differences")
+          f"{len(WAITING)} that wait, {len(GROUPS)} with groups, {len(INLINES)} with inline functions, {len(PARALLEL)} with parallel loops, {len(ASKING)} with calls and the like inside values, {len(WIDTHS) + len(PACKED) + len(shared)} with widths, {len(BROKEN) + len(FURTHER)} with broken lines, {len(BUILT_IN)} with min, max and abs, {len(STATUSES) + len(CANCELED)} with statuses, {len(HIDING)} that hide names, {len(GIVING)} whose params are given numbers, {len(NAMELESS)} with tasks without a name, {len(SHARING)} that share, {len(FITTING)} that just fit, {len(CROWDED)} that do not, {len(TAKEN)} of the examples, {len(REFUSED)} refused: {len(found)} differences")
     return found or rare
 
 

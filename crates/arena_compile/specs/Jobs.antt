@@ -12,12 +12,14 @@ use Rattle.job_compiler.specs.declared.errors.Refusal.{Refusal}
 use Rattle.job_compiler.specs.Code.{function_code}
 use Rattle.job_compiler.specs.Programs.{HasCount, IsCompiledProgram}
 use Rattle.job_compiler.specs.Refusals.{HasCode, IsRefused}
+use Rattle.register_choice.specs.declared.compile.Crowd.{Crowd}
+use Rattle.register_choice.specs.Reasons.{IsCrowded}
 use Rattle.source_tokens.specs.Givens.{Givens}
 use Rattle.source_reader.specs.declared.places.Place.{Place}
 use Rattle.source_reader.specs.Trees.{function_tree_of}
 use Rattle.source_reader.specs.Source.{Says, HasFault, function_place}
 use Rattle.arena_compile.specs.declared.errors.CompileFault.{CompileFault}
-use Rattle.arena_compile.specs.declared.errors.CompileFault.TheVariants.{Source, TooLong, Registers, Count, NoProcedure}
+use Rattle.arena_compile.specs.declared.errors.CompileFault.TheVariants.{Source, TooLong, Crowded, NoChoice, Count, NoProcedure}
 use Rattle.arena_compile.specs.declared.errors.CompileError.{CompileError}
 use Rattle.arena_compile.specs.declared.errors.CompileError.TheVariants.{Memory, Fault}
 
@@ -39,13 +41,20 @@ pub record IsLineOf (args : List ℤ) (gs : Givens) (text line : List ℕ) : Typ
   pub made : IsJobOf args gs text job
   pub written : line ≡ compact_text (job_data job)
 
--- The text says functions, and this is so of the one that begins at the place.
-pub record HasFunctionAt (gs : Givens) (text : List ℕ) (place : Place) (P : Function → Type 0) : Type 0 where
+-- The text says functions, and this is so of the one of that number, which begins at the place.
+pub record IsFunctionAt (gs : Givens) (text : List ℕ) (number : ℕ) (place : Place) (P : Function → Type 0) : Type 0 where
   pub functions : List Function
   pub said : Says gs text (map function_tree_of functions)
-  pub number : ℕ
   pub begins : place ≡ function_place text number
   pub has : IsSomeAnd (slice_get functions number) P
+
+-- This is so of a function that begins at the place.
+abbrev pub HasFunctionAt : (gs : Givens) (text : List ℕ) (place : Place) (P : Function → Type 0) → Type 0
+HasFunctionAt gs text place P = (number : ℕ) × IsFunctionAt gs text number place P
+
+-- The function's code is no procedure as it stands, since more of its virtual registers than a frame has are read later from the place on.
+abbrev pub NeedsMore : Crowd → Function → Type 0
+NeedsMore crowd f = HasCode f × (¬ IsValidProc (function_code f)) × IsCrowded (function_code f) crowd.place crowd.live
 
 -- The text says too many functions, or none; the first one begins at the place.
 pub record HasWrongCount (gs : Givens) (text : List ℕ) (place : Place) : Type 0 where
@@ -65,7 +74,8 @@ pub record NamesNoFunction (gs : Givens) (text : List ℕ) (place : Place) : Typ
 abbrev pub IsFaultOf : Givens → List ℕ → CompileFault → Type 0
 IsFaultOf gs text (Source fault) = HasFault gs text fault
 IsFaultOf gs text (TooLong place) = HasFunctionAt gs text place (λ f. (r : Refusal) × IsRefused f r)
-IsFaultOf gs text (Registers place) = HasFunctionAt gs text place (λ f. HasCode f × (¬ IsValidProc (function_code f)))
+IsFaultOf gs text (Crowded c) = IsFunctionAt gs text c.number c.place (NeedsMore c.crowd)
+IsFaultOf gs text (NoChoice place) = HasFunctionAt gs text place (λ f. HasCode f × (¬ IsValidProc (function_code f)))
 IsFaultOf gs text (Count place) = HasWrongCount gs text place
 IsFaultOf gs text (NoProcedure place) = NamesNoFunction gs text place
 

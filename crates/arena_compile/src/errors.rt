@@ -2,19 +2,29 @@
 ghost use Rattle.std.specs.Prelude.{ℕ, List};
 ghost use Rattle.register_choice.specs.Refusals.{IsWithoutChoice};
 ghost use Rattle.source_tokens.specs.Givens.{Givens};
-ghost use Rattle.arena_compile.specs.Jobs.{HasFunctionAt, IsFaultOf};
+ghost use Rattle.arena_compile.specs.Jobs.{IsFunctionAt, IsFaultOf};
 
-use register_choice::ChoiceRefusal;
+use register_choice::{ChoiceRefusal, Crowd};
 use source_reader::{Place, SourceFault, Wrong};
 
+/// A function that needs more registers than there are: its number, from 0, where it begins, and a place of its code
+/// from which on too many of its variables and values are read later.
+#[derive(Clone, Copy)]
+pub struct CrowdedFunction {
+    pub number: usize,
+    pub place: Place,
+    pub crowd: Crowd,
+}
+
 /// What is wrong with a source, and where: a place of its text, or the function that can't be compiled.
-#[derive(Clone, Copy, Debug, PartialEq, Eq)]
+#[derive(Clone, Copy)]
 pub enum CompileFault {
     Source(SourceFault),
     /// The function that begins there has more instructions, variables or values on the way than it may have.
     TooLong(Place),
-    /// The function that begins there needs more registers than there are.
-    Registers(Place),
+    Crowded(CrowdedFunction),
+    /// The function that begins there needs more registers than there are, though nowhere too much is read later.
+    NoChoice(Place),
     /// The functions, of which the first one begins there, are more than a job may have, or there are none.
     Count(Place),
     /// The function that begins there names one that is not there.
@@ -22,7 +32,7 @@ pub enum CompileFault {
 }
 
 /// Why there is no job.
-#[derive(Clone, Copy, Debug, PartialEq, Eq)]
+#[derive(Clone, Copy)]
 pub enum CompileError {
     /// An allocation failed.
     Memory,
@@ -35,19 +45,21 @@ impl CompileFault {
         match self {
             CompileFault::Source(fault) => fault.place,
             CompileFault::TooLong(place) => *place,
-            CompileFault::Registers(place) => *place,
+            CompileFault::Crowded(function) => function.place,
+            CompileFault::NoChoice(place) => *place,
             CompileFault::Count(place) => *place,
             CompileFault::NoProcedure(place) => *place,
         }
     }
 
-    /// What it is, in words.
-    pub fn words(&self) -> &'static str {
+    /// What it is, in words that name nothing of the source.
+    pub(crate) fn words(&self) -> &'static str {
         match self {
             CompileFault::Source(fault) => words_of(fault.wrong),
             CompileFault::TooLong(_) => "this function is too long for a procedure",
-            CompileFault::Registers(_) =>
-                "this function needs more than 8 registers: `let` inner values be variables, or another fn do a part",
+            CompileFault::Crowded(_) => "this function needs more than 8 registers",
+            CompileFault::NoChoice(_) =>
+                "this function needs more than 8 registers: let another fn do a part, or compute a value where it is needed",
             CompileFault::Count(_) => "a job has from 1 to 16 functions",
             CompileFault::NoProcedure(_) => "this function names one that is not there",
         }
@@ -119,14 +131,18 @@ fn words_of_parameters(wrong: Wrong) -> &'static str {
     }
 }
 
-/// The fault of a function that begins there.
-pub(crate) fn fault_of(refusal: ChoiceRefusal, place: Place) -> CompileFault
-    ensures { (gs : Givens) (text : List ℕ) → HasFunctionAt gs text place (λ f. IsWithoutChoice f refusal)
-        → IsFaultOf gs text result }
+/// The fault of the function of that number, which begins there.
+pub(crate) fn fault_of(number: usize, refusal: ChoiceRefusal, place: Place) -> CompileFault
+    ensures { (gs : Givens) (text : List ℕ)
+        → IsFunctionAt gs text number place (λ f. IsWithoutChoice f refusal) → IsFaultOf gs text result }
 {
     match refusal {
         ChoiceRefusal::Refused(_) => CompileFault::TooLong(place),
-        ChoiceRefusal::Crowded(_) => CompileFault::Registers(place),
-        ChoiceRefusal::NoChoice => CompileFault::Registers(place),
+        ChoiceRefusal::Crowded(crowd) => CompileFault::Crowded(CrowdedFunction {
+            number,
+            place,
+            crowd,
+        }),
+        ChoiceRefusal::NoChoice => CompileFault::NoChoice(place),
     }
 }

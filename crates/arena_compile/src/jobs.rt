@@ -92,7 +92,7 @@ fn error_of(alloc: Global, error: ChoiceProgramError, text: &[u8]) -> CompileErr
         },
         ChoiceProgramError::Refused(number, refusal) => {
             match function_place(alloc, text, number) {
-                Ok(place) => CompileError::Fault(fault_of(refusal, place)),
+                Ok(place) => CompileError::Fault(fault_of(number, refusal, place)),
                 Err(_) => CompileError::Memory,
             }
         }

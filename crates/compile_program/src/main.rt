@@ -1,8 +1,10 @@
-//! `arena-compile`: reads a source on standard input, and writes the line of its job, or the line with
-//! which a tenant replies when it has executed that job.
+//! `arena-compile`: reads a source on standard input, and writes the line of its job, its instructions as a listing, or
+//! the line with which a tenant replies when it has executed that job.
 #![tactic(auto)]
 
-use arena_compile::{CompileError, CompileFault, args_in, given_in, job_line};
+use arena_compile::{
+    CompileError, CompileFault, args_in, fault_line, given_in, job_line, job_listing,
+};
 use job_language::{Fuel, MAX_FUEL};
 use program_version::{asks_version, print_version};
 use source_tokens::Given;
@@ -28,7 +30,8 @@ enum Stop {
     Length,
     /// The source has no serial value.
     NotSerial,
-    Fault(CompileFault),
+    /// The source has a fault, which is this line.
+    Fault(String),
 }
 
 fn main(rt: HostRuntime) -> ExitCode {
@@ -46,6 +49,7 @@ fn run<R: Env + Input + Print + AllocGlobal>(rt: &R) -> Result<(), Stop> {
     }
     match texts.as_slice().split_first() {
         Some((first, rest)) if *first == "--serial" => print_reply(rt, rest),
+        Some((first, rest)) if *first == "--listing" => print_listing(rt, rest),
         _ => print_job(rt, texts.as_slice()),
     }
 }
@@ -87,7 +91,28 @@ fn print_job<R: Input + Print + AllocGlobal>(rt: &R, words: &[&str]) -> Result<(
     match job_line(rt.alloc(), args, givens.as_slice(), text.as_slice()) {
         Ok(line) => rt.println(line.as_str()).map_err(|_fault| Stop::Device),
         Err(CompileError::Memory) => Err(Stop::Memory),
-        Err(CompileError::Fault(fault)) => Err(Stop::Fault(fault)),
+        Err(CompileError::Fault(fault)) => Err(faulty(
+            rt,
+            &fault,
+            givens.as_slice(),
+            text.as_slice(),
+        )),
+    }
+}
+
+/// Prints the instructions of that job, with the names of its procedures.
+fn print_listing<R: Input + Print + AllocGlobal>(rt: &R, words: &[&str]) -> Result<(), Stop> {
+    let Said { givens, args: _ } = said_by(rt, words)?;
+    let text = source_of(rt)?;
+    match job_listing(rt.alloc(), givens.as_slice(), text.as_slice()) {
+        Ok(lines) => rt.print(lines.as_str()).map_err(|_fault| Stop::Device),
+        Err(CompileError::Memory) => Err(Stop::Memory),
+        Err(CompileError::Fault(fault)) => Err(faulty(
+            rt,
+            &fault,
+            givens.as_slice(),
+            text.as_slice(),
+        )),
     }
 }
 
@@ -111,7 +136,20 @@ fn print_reply<R: Input + Print + AllocGlobal>(rt: &R, words: &[&str]) -> Result
             .map_err(|_fault| Stop::Device),
         Err(SourceError::Memory) => Err(Stop::Memory),
         Err(SourceError::NotSerial) => Err(Stop::NotSerial),
-        Err(SourceError::Fault(fault)) => Err(Stop::Fault(fault)),
+        Err(SourceError::Fault(fault)) => Err(faulty(
+            rt,
+            &fault,
+            givens.as_slice(),
+            text.as_slice(),
+        )),
+    }
+}
+
+/// That there is no line since the source has that fault.
+fn faulty<R: AllocGlobal>(rt: &R, fault: &CompileFault, givens: &[Given], text: &[u8]) -> Stop {
+    match fault_line(rt.alloc(), fault, givens, text) {
+        Ok(line) => Stop::Fault(line),
+        Err(_) => Stop::Memory,
     }
 }
 
@@ -182,10 +220,7 @@ fn say<R: Eprint>(rt: &R, stop: &Stop) -> io::Result<()> {
         Stop::NotSerial => {
             rt.eprintln("1:1: the value may depend on the slot, the width, cells or the schedule")
         }
-        Stop::Fault(fault) => {
-            let place = fault.place();
-            eprintln!(rt; "{}:{}: {}", place.line, place.column, fault.words())
-        }
+        Stop::Fault(line) => rt.eprintln(line.as_str()),
     }
 }
 

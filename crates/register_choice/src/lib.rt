@@ -1,6 +1,7 @@
 //! Registers of a frame for the virtual registers of a function: a choice, and its check.
 #![tactic(auto)]
 
+mod again;
 mod check;
 mod choose;
 mod compile;

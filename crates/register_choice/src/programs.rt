@@ -6,6 +6,7 @@ ghost use Rattle.job_compiler.specs.Compiled.{IsCompiled};
 ghost use Rattle.job_compiler.specs.Programs.{IsCompiledProgram};
 ghost use Rattle.register_choice.specs.Programs.{IsNoProgram, IsWrong};
 
+use crate::again::with_values_again;
 use crate::compile::{ChoiceError, ChoiceRefusal, compile_function};
 use crate::keeping::{MOST_KEPT, with_kept};
 use job_compiler::are_calls;
@@ -99,6 +100,12 @@ fn compile_one(
             }
         }
         Err(ChoiceError::NoMemory) => Err(ChoiceProgramError::NoMemory),
-        Err(ChoiceError::Refused(refusal)) => Err(ChoiceProgramError::Refused(number, refusal)),
+        Err(ChoiceError::Refused(refusal)) => match with_values_again(
+            alloc, procs, function, &refusal,
+        ) {
+            Ok(Some(proc)) => Ok(proc),
+            Ok(None) => Err(ChoiceProgramError::Refused(number, refusal)),
+            Err(_) => Err(ChoiceProgramError::NoMemory),
+        },
     }
 }

@@ -13,6 +13,7 @@ use crate::marks::{after_first, is_close};
 use crate::nameless::nameless_in;
 use crate::names::{Meaning, NAMELESS, Names, number_after};
 use crate::statements::block_at;
+use crate::variables::Declared;
 use crate::widths::{MOST_PARAMETERS, width_in};
 use source_language::Stmt;
 use source_tokens::Token;
@@ -49,6 +50,7 @@ fn with_parameter(taken: Taken, bits: u8, tokens: &[Token]) -> Result<Taken, Rea
 pub(crate) fn body_at<'a>(
     alloc: Global,
     names: &Names,
+    seen: &mut Declared,
     tokens: &'a [Token],
 ) -> Result<(Stmt, &'a [Token]), ReadError>
     ensures { Gives (λ x. (stmt_tree_of x.0, x.1.now)) result
@@ -57,9 +59,9 @@ pub(crate) fn body_at<'a>(
     match nameless_in(names, tokens)? {
         Some(task) => {
             let inner = Names::Name(NAMELESS, Meaning::Task(task), &*names);
-            block_at(alloc, &inner, false, BODY_FUEL, tokens)
+            block_at(alloc, &inner, seen, false, BODY_FUEL, tokens)
         }
-        None => block_at(alloc, names, false, BODY_FUEL, tokens),
+        None => block_at(alloc, names, seen, false, BODY_FUEL, tokens),
     }
 }
 
@@ -70,6 +72,7 @@ fn parameters_from<'a>(
     left: u8,
     is_root: bool,
     names: &Names,
+    seen: &mut Declared,
     variable: u8,
     taken: Taken,
     tokens: &'a [Token],
@@ -84,12 +87,13 @@ fn parameters_from<'a>(
     let (bits, after) = width_at(is_root, after_first(tokens))?;
     let taken = with_parameter(taken, bits, tokens)?;
     let inner = Names::Name(name, Meaning::Variable(variable), &*names);
+    seen.add(Meaning::Variable(variable), tokens)?;
     if is_close(after) {
-        body_at(alloc, &inner, after_first(after))
+        body_at(alloc, &inner, seen, after_first(after))
     } else {
         let rest = after_comma(after)?;
         let next = number_after(variable);
-        parameters_from(alloc, left - 1, is_root, &inner, next, taken, rest)
+        parameters_from(alloc, left - 1, is_root, &inner, seen, next, taken, rest)
     }
 }
 
@@ -98,6 +102,7 @@ pub(crate) fn inside_at<'a>(
     alloc: Global,
     is_root: bool,
     names: &Names,
+    seen: &mut Declared,
     variable: u8,
     tokens: &'a [Token],
 ) -> Result<(Stmt, &'a [Token]), ReadError>
@@ -105,7 +110,7 @@ pub(crate) fn inside_at<'a>(
         (inside_at is_root (names_of names.now) variable tokens.entry.now) }
 {
     if is_close(tokens) {
-        body_at(alloc, names, after_first(tokens))
+        body_at(alloc, names, seen, after_first(tokens))
     } else {
         let taken = nothing_taken();
         parameters_from(
@@ -113,6 +118,7 @@ pub(crate) fn inside_at<'a>(
             MOST_PARAMETERS,
             is_root,
             names,
+            seen,
             variable,
             taken,
             tokens,

@@ -11,8 +11,8 @@ use crate::names::{Meaning, Names, Task, new_number};
 use crate::tasks::free_group;
 use source_tokens::{Kind, Token};
 
-/// What follows `let x =`.
-fn behind_set(tokens: &[Token]) -> &[Token]
+/// What follows `let x =`, or `let x,`.
+pub(crate) fn behind_set(tokens: &[Token]) -> &[Token]
     ensures { result.now ≡ drop 1 (drop 1 (drop 1 tokens.now)) }
 {
     after_first(after_first(after_first(tokens)))

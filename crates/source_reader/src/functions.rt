@@ -11,6 +11,7 @@ use crate::layouts::{first_variable, with_unpacking};
 use crate::lines::{after_line_ends, free_name, item_ended};
 use crate::marks::{after_first, after_open};
 use crate::names::{Names, number_after};
+use crate::variables::Declared;
 use crate::widths::widths_in;
 use source_language::{Function, Maker, Stmt};
 use source_tokens::{Kind, Token};
@@ -159,6 +160,7 @@ pub(crate) struct Named<'a> {
 fn function_at<'a>(
     alloc: Global,
     names: &Names,
+    seen: &mut Declared,
     known: &[Option<usize>],
     tokens: &'a [Token],
 ) -> Result<Named<'a>, ReadError>
@@ -169,7 +171,7 @@ fn function_at<'a>(
     let inside = after_open(after_first(named))?;
     let widths = widths_in(alloc, inside)?;
     let variable = first_variable(widths.as_slice());
-    let (body, rest) = inside_at(alloc, is_first(known), names, variable, inside)?;
+    let (body, rest) = inside_at(alloc, is_first(known), names, seen, variable, inside)?;
     let function = function_of(alloc, widths.as_slice(), body)?;
     Ok(Named {
         name,
@@ -185,6 +187,7 @@ pub(crate) fn functions_from(
     alloc: Global,
     left: u8,
     names: &Names,
+    seen: &mut Declared,
     known: Vec<Option<usize>>,
     before: Vec<Function>,
     tokens: &[Token],
@@ -199,11 +202,12 @@ pub(crate) fn functions_from(
     if left == 0 {
         return Err(fault_at(lines, Wrong::TooManyFunctions));
     }
-    let named = function_at(alloc, names, known.as_slice(), lines)?;
+    seen.begin(FUNCTIONS.saturating_sub(left));
+    let named = function_at(alloc, names, seen, known.as_slice(), lines)?;
     let rest = item_ended(named.rest)?;
     let known = with_name(known, named.name)?;
     let before = with_function(before, named.function)?;
-    functions_from(alloc, left - 1, names, known, before, rest)
+    functions_from(alloc, left - 1, names, seen, known, before, rest)
 }
 
 fn with_name(

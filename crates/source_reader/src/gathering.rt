@@ -14,6 +14,7 @@ use crate::headers::gathers_of;
 use crate::lines::free_name;
 use crate::names::{Meaning, Names};
 use crate::ranges::{distance_at, grain_at, is_begin, is_grain_of};
+use crate::variables::Declared;
 use source_language::Function;
 use source_tokens::{Gathers, Token};
 use std::alloc::Global;
@@ -38,6 +39,7 @@ fn gathering_at(
     alloc: Global,
     gathers: Gathers,
     names: &Names,
+    seen: &mut Declared,
     number: u8,
     tokens: &[Token],
 ) -> Result<Function, ReadError>
@@ -48,7 +50,9 @@ fn gathering_at(
     let (most, block) = grain_at(alloc, names, rest)?;
     let named = Names::Name(index, Meaning::Counter(LOW), names);
     let inner = Names::Gathering(gathers, &named);
-    let (body, _) = body_at(alloc, &inner, block)?;
+    seen.begin(number);
+    seen.add(Meaning::Counter(LOW), tokens)?;
+    let (body, _) = body_at(alloc, &inner, seen, block)?;
     let variables = larger(VARIABLES, variables_of(&body));
     let body = gathered(alloc, gathers, number, most, by, body)?;
     Ok(Function { variables, body })
@@ -58,6 +62,7 @@ fn gathering_at(
 fn one_gathering(
     alloc: Global,
     names: &Names,
+    seen: &mut Declared,
     gathers: Option<Gathers>,
     before: Vec<Function>,
     tokens: &[Token],
@@ -71,7 +76,7 @@ fn one_gathering(
     };
     let number = before.len();
     if number < usize::from(FUNCTIONS) {
-        let function = gathering_at(alloc, gathers, names, number as u8, rest)?;
+        let function = gathering_at(alloc, gathers, names, seen, number as u8, rest)?;
         with_function(before, function)
     } else {
         Err(fault_at(tokens, Wrong::TooManyFunctions))
@@ -82,6 +87,7 @@ fn one_gathering(
 pub(crate) fn gatherings_from(
     alloc: Global,
     names: &Names,
+    seen: &mut Declared,
     before: Vec<Function>,
     tokens: &[Token],
 ) -> Result<Vec<Function>, ReadError>
@@ -91,7 +97,15 @@ pub(crate) fn gatherings_from(
     let mut functions = before;
     let mut left = tokens;
     while let [first, rest @ ..] = left {
-        functions = one_gathering(alloc, names, gathers_of(first.kind), functions, left, rest)?;
+        functions = one_gathering(
+            alloc,
+            names,
+            seen,
+            gathers_of(first.kind),
+            functions,
+            left,
+            rest,
+        )?;
         left = rest;
     }
     Ok(functions)

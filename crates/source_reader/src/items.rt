@@ -16,6 +16,7 @@ use crate::marks::after_first;
 use crate::names::{Meaning, Names};
 use crate::parameters::inline_at;
 use crate::values::whole_value;
+use crate::variables::Declared;
 use source_language::Function;
 use source_tokens::{Kind, Token};
 use std::alloc::Global;
@@ -118,6 +119,7 @@ fn inlines_from(
     alloc: Global,
     left: u8,
     names: &Names,
+    seen: &mut Declared,
     tokens: &[Token],
 ) -> Result<Vec<Function>, ReadError>
     ensures { Gives (λ v. map function_tree_of v.items) result
@@ -126,8 +128,16 @@ fn inlines_from(
     let lines = after_line_ends(tokens);
     if !is_inline(lines) {
         let known = Vec::new(alloc);
-        let functions = functions_from(alloc, FUNCTIONS, names, known, Vec::new(alloc), lines)?;
-        return gatherings_from(alloc, names, functions, lines);
+        let functions = functions_from(
+            alloc,
+            FUNCTIONS,
+            names,
+            seen,
+            known,
+            Vec::new(alloc),
+            lines,
+        )?;
+        return gatherings_from(alloc, names, seen, functions, lines);
     }
     if left == 0 {
         return Err(fault_at(lines, Wrong::TooManyItems));
@@ -136,7 +146,7 @@ fn inlines_from(
         Ok((name, (inline, rest))) => {
             let rest = item_ended(rest)?;
             let inner = Names::Inline(name, &inline, &*names);
-            inlines_from(alloc, left - 1, &inner, rest)
+            inlines_from(alloc, left - 1, &inner, seen, rest)
         }
         Err(error) => Err(error),
     }
@@ -148,6 +158,7 @@ pub(crate) fn items_from(
     alloc: Global,
     left: u8,
     names: &Names,
+    seen: &mut Declared,
     tokens: &[Token],
 ) -> Result<Vec<Function>, ReadError>
     ensures { Gives (λ v. map function_tree_of v.items) result
@@ -155,7 +166,7 @@ pub(crate) fn items_from(
 {
     let lines = after_line_ends(tokens);
     if !is_item(lines) {
-        return inlines_from(alloc, INLINES, names, lines);
+        return inlines_from(alloc, INLINES, names, seen, lines);
     }
     if left == 0 {
         return Err(fault_at(lines, Wrong::TooManyItems));
@@ -164,7 +175,7 @@ pub(crate) fn items_from(
         Ok((name, (meaning, rest))) => {
             let rest = item_ended(rest)?;
             let inner = Names::Name(name, meaning, &*names);
-            items_from(alloc, left - 1, &inner, rest)
+            items_from(alloc, left - 1, &inner, seen, rest)
         }
         Err(error) => Err(error),
     }

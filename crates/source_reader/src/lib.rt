@@ -44,10 +44,14 @@ mod tasks;
 mod trees;
 mod truths;
 mod values;
+mod variables;
 mod waits;
 mod widths;
 
 pub use faults::Wrong;
 pub use laws::{built_ins_have_values, widths_keep_arguments};
 pub use places::Place;
-pub use source::{SourceError, SourceFault, function_place, read_source};
+pub use source::{
+    SourceError, SourceFault, function_place, function_title, named_variables, read_source,
+};
+pub use variables::NamedVariable;

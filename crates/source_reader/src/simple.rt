@@ -1,8 +1,9 @@
 // Statements without blocks.
-ghost use Rattle.std.specs.Prelude.{◌≡◌};
+ghost use Rattle.std.specs.Prelude.{◌≡◌, IfOk};
 ghost use Rattle.source_reader.specs.Faults.{Gives};
 ghost use Rattle.source_reader.specs.Trees.{stmt_tree_of, test_tree_of, value_tree_of};
 ghost use Rattle.source_reader.specs.Names.{names_of, meaning_of, new_number};
+ghost use Rattle.source_reader.specs.Counting.{counting_loop};
 ghost use Rattle.source_reader.specs.Simple.{condition_at, new_name, given_at, let_at, updated, assigned_to, assigned_at, declared_at, wait_at, nameless_waited, sync_at, region_at, view_count, count_at};
 
 use crate::calls::{Run, is_spawn, run_at, spawn_at};
@@ -13,6 +14,7 @@ use crate::givers::{Giver, given_by, giver_at};
 use crate::groups::own_group_at;
 use crate::joining::{Value, arithmetic, test_in};
 use crate::lines::{after_in, after_range, after_set, free_name};
+use crate::loops::counting_loop;
 use crate::marks::after_first;
 use crate::names::{Meaning, NAMELESS, Names, meaning_of, new_number, number_behind};
 use crate::statuses::status_at;
@@ -23,7 +25,7 @@ use crate::waits::awaited_at;
 use crate::widths::is_comma;
 use source_language::{Expr, Stmt, Test};
 use source_tokens::{Kind, Token};
-use std::alloc::Global;
+use std::alloc::{AllocError, Global};
 
 /// A condition, and the tokens after it.
 pub(crate) fn condition_at<'a>(
@@ -257,4 +259,20 @@ pub(crate) fn count_at<'a>(
         by,
     };
     Ok((count, rest))
+}
+
+/// The loop of that head.
+pub(crate) fn counted(alloc: Global, count: Count, body: Stmt) -> Result<Stmt, AllocError>
+    ensures { IfOk result (λ s. stmt_tree_of s ≡ counting_loop count.index count.end count.by
+        (value_tree_of count.low) (value_tree_of count.high) (stmt_tree_of body)) }
+{
+    counting_loop(
+        alloc,
+        count.index,
+        count.end,
+        count.by,
+        count.low,
+        count.high,
+        body,
+    )
 }

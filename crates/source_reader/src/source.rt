@@ -16,8 +16,9 @@ use crate::items::{ITEMS, items_from};
 use crate::lines::after_line_ends;
 use crate::names::Names;
 use crate::places::{Place, place_of};
+use crate::variables::{Declared, NamedVariable};
 use source_language::Function;
-use source_tokens::{Given, Token, are_params, tokens_in, tokens_with};
+use source_tokens::{Given, Kind, Token, are_params, tokens_in, tokens_with};
 use std::alloc::{AllocError, Global};
 
 /// The first fault of a source, and its place.
@@ -126,6 +127,7 @@ fn some_functions(functions: Vec<Function>) -> Result<Vec<Function>, ReadError>
 fn items_with(
     alloc: Global,
     headers: &[Header],
+    seen: &mut Declared,
     _inlines: &Vec<Inline>,
     tokens: &[Token],
 ) -> Result<Vec<Function>, ReadError>
@@ -133,20 +135,25 @@ fn items_with(
         (items_from ITEMS (Functions (map header_tree_of headers.now)) tokens.now) }
 {
     let names = Names::Functions(headers);
-    items_from(alloc, ITEMS, &names, tokens)
+    items_from(alloc, ITEMS, &names, seen, tokens)
 }
 
-fn read_tokens(alloc: Global, tokens: &[Token]) -> Result<Vec<Function>, ReadError>
+fn read_tokens(
+    alloc: Global,
+    seen: &mut Declared,
+    tokens: &[Token],
+) -> Result<Vec<Function>, ReadError>
     ensures { Gives (λ v. map function_tree_of v.items) result (read_tokens tokens.now) }
 {
     let headers = headers_in(alloc, tokens)?;
-    let functions = items_with(alloc, headers.as_slice(), &Vec::new(alloc), tokens)?;
+    let functions = items_with(alloc, headers.as_slice(), seen, &Vec::new(alloc), tokens)?;
     some_functions(functions)
 }
 
 /// Each name that is given a number has to be that of a `param`.
 fn read_params(
     alloc: Global,
+    seen: &mut Declared,
     givens: &[Given],
     text: &[u8],
     tokens: &[Token],
@@ -155,7 +162,7 @@ fn read_params(
         (read_params (map view_given givens.now) text.now tokens.now) }
 {
     if are_params(text, givens, tokens) {
-        read_tokens(alloc, tokens)
+        read_tokens(alloc, seen, tokens)
     } else {
         Err(fault_at(after_line_ends(tokens), Wrong::NoParam))
     }
@@ -172,7 +179,8 @@ pub fn read_source(
     let Ok(tokens) = tokens_with(alloc, givens, text) else {
         return Err(SourceError::Memory);
     };
-    match read_params(alloc, givens, text, tokens.as_slice()) {
+    let mut seen = Declared::new(alloc);
+    match read_params(alloc, &mut seen, givens, text, tokens.as_slice()) {
         Ok(functions) => Ok(functions),
         Err(ReadError::Memory) => Err(SourceError::Memory),
         Err(ReadError::Fault(fault)) => Err(SourceError::Fault(SourceFault {
@@ -180,4 +188,32 @@ pub fn read_source(
             wrong: fault.wrong,
         })),
     }
+}
+
+/// The variables that have names, as far as the source has no fault. Its params are given these numbers.
+pub fn named_variables(
+    alloc: Global,
+    givens: &[Given],
+    text: &[u8],
+) -> Result<Vec<NamedVariable>, AllocError> {
+    let tokens = tokens_with(alloc, givens, text)?;
+    let mut seen = Declared::new(alloc);
+    match read_params(alloc, &mut seen, givens, text, tokens.as_slice()) {
+        Ok(_) | Err(ReadError::Fault(_)) => Ok(seen.variables()),
+        Err(ReadError::Memory) => Err(AllocError),
+    }
+}
+
+/// Where the name of the function of that number stands, or else the word of its parallel loop.
+pub fn function_title(alloc: Global, text: &[u8], number: usize) -> Result<usize, AllocError> {
+    let tokens = tokens_in(alloc, text)?;
+    let all = tokens.as_slice();
+    let at = nth_fn(false, all, all, number, text.len());
+    let mut title = at;
+    for (word, next) in all.iter().zip(all.iter().skip(1)) {
+        if word.at == at && matches!(word.kind, Kind::Fn) {
+            title = next.at;
+        }
+    }
+    Ok(title)
 }

@@ -7,22 +7,23 @@ ghost use Rattle.source_reader.specs.Statements.{ask_and_rest, line_and_rest, fo
 
 use crate::ahead::{next_ask, next_wait};
 use crate::calls::{Run, run_at};
-use crate::declaring::declared_in;
+use crate::declaring::{behind_set, declared_in};
 use crate::faults::{ReadError, Wrong, fault_at};
 use crate::givers::giver_at;
 use crate::giving::{give_at, group_given, return_in};
 use crate::groups::{cancel_at, gathered, group_at, spawned_at};
 use crate::lines::{after_begin, after_else, after_end, after_line_ends, ended, is_if, let_name};
-use crate::loops::{counting_loop, loop_left};
+use crate::loops::loop_left;
 use crate::marks::after_first;
 use crate::names::{Meaning, Names, new_number};
 use crate::questions::asked_again;
 use crate::simple::{
-    Count, assigned_at, condition_at, count_at, given_at, let_at, region_at, sync_at, wait_at,
+    assigned_at, condition_at, count_at, counted, given_at, let_at, region_at, sync_at, wait_at,
 };
 use crate::statuses::status_name;
 use crate::tasks::{block_end, waited};
 use crate::trees::{choice, leaves, looped, then};
+use crate::variables::Declared;
 use source_language::Stmt;
 use source_tokens::{Kind, Token};
 use std::alloc::Global;
@@ -33,6 +34,7 @@ use std::alloc::Global;
 pub(crate) fn block_at<'a>(
     alloc: Global,
     names: &Names,
+    seen: &mut Declared,
     in_loop: bool,
     fuel: u16,
     tokens: &'a [Token],
@@ -44,7 +46,7 @@ pub(crate) fn block_at<'a>(
         return Err(fault_at(tokens, Wrong::TooLong));
     }
     let inside = after_begin(tokens)?;
-    rest_at(alloc, names, in_loop, false, fuel - 1, inside)
+    rest_at(alloc, names, seen, in_loop, false, fuel - 1, inside)
 }
 
 /// The statements up to the end of a block. If they are never reached, there are none.
@@ -53,6 +55,7 @@ pub(crate) fn block_at<'a>(
 fn rest_at<'a>(
     alloc: Global,
     names: &Names,
+    seen: &mut Declared,
     in_loop: bool,
     left: bool,
     fuel: u16,
@@ -74,17 +77,17 @@ fn rest_at<'a>(
     match next_wait(names, lines) {
         None => match next_ask(names, lines) {
             None => match gathered(names, lines) {
-                None => lines_at(alloc, names, names, in_loop, fuel - 1, lines),
+                None => lines_at(alloc, names, names, seen, in_loop, fuel - 1, lines),
                 Some(group) => {
                     let behind = Names::Waited(group, &*names);
-                    lines_at(alloc, names, &behind, in_loop, fuel - 1, lines)
+                    lines_at(alloc, names, &behind, seen, in_loop, fuel - 1, lines)
                 }
             },
-            Some(asked) => asked_before(alloc, names, in_loop, fuel - 1, asked, lines),
+            Some(asked) => asked_before(alloc, names, seen, in_loop, fuel - 1, asked, lines),
         },
         Some(task) => {
             let behind = Names::Waited(task.group, &*names);
-            let (others, after) = rest_at(alloc, &behind, in_loop, false, fuel - 1, lines)?;
+            let (others, after) = rest_at(alloc, &behind, seen, in_loop, false, fuel - 1, lines)?;
             Ok((then(alloc, waited(task), others)?, after))
         }
     }
@@ -95,6 +98,7 @@ fn rest_at<'a>(
 fn asked_before<'a>(
     alloc: Global,
     names: &Names,
+    seen: &mut Declared,
     in_loop: bool,
     fuel: u16,
     asked: &[Token],
@@ -110,12 +114,12 @@ fn asked_before<'a>(
         Some(group) => {
             let gathered = Names::Waited(group, &*names);
             let inner = Names::Asked(left, right, number, &gathered);
-            let (others, after) = rest_at(alloc, &inner, in_loop, false, fuel, tokens)?;
+            let (others, after) = rest_at(alloc, &inner, seen, in_loop, false, fuel, tokens)?;
             Ok((then(alloc, given, others)?, after))
         }
         None => {
             let inner = Names::Asked(left, right, number, &*names);
-            let (others, after) = rest_at(alloc, &inner, in_loop, false, fuel, tokens)?;
+            let (others, after) = rest_at(alloc, &inner, seen, in_loop, false, fuel, tokens)?;
             Ok((then(alloc, given, others)?, after))
         }
     }
@@ -127,6 +131,7 @@ fn lines_at<'a>(
     alloc: Global,
     names: &Names,
     behind: &Names,
+    seen: &mut Declared,
     in_loop: bool,
     fuel: u16,
     tokens: &'a [Token],
@@ -134,24 +139,26 @@ fn lines_at<'a>(
     ensures { Gives (λ x. (stmt_tree_of x.0, x.1.now)) result
         (line_and_rest (stmt_at fuel) (names_of names.now) (names_of behind.now) in_loop tokens.entry.now) }
 {
-    let (first, rest) = line_at(alloc, names, in_loop, fuel, tokens)?;
+    let (first, rest) = line_at(alloc, names, seen, in_loop, fuel, tokens)?;
     let rest = ended(rest)?;
     let left = leaves(&first);
     match let_name(tokens) {
         None => {
-            let (others, after) = rest_at(alloc, behind, in_loop, left, fuel, rest)?;
+            let (others, after) = rest_at(alloc, behind, seen, in_loop, left, fuel, rest)?;
             Ok((then(alloc, first, others)?, after))
         }
         Some(name) => {
             let meaning = declared_in(behind, tokens)?;
             let inner = Names::Name(name, meaning, &*behind);
+            seen.add(meaning, after_first(tokens))?;
             let Some(status) = status_name(after_first(tokens)) else {
-                let (others, after) = rest_at(alloc, &inner, in_loop, left, fuel, rest)?;
+                let (others, after) = rest_at(alloc, &inner, seen, in_loop, left, fuel, rest)?;
                 return Ok((then(alloc, first, others)?, after));
             };
             let second = new_number(&inner, tokens)?;
             let both = Names::Name(status, Meaning::Variable(second), &inner);
-            let (others, after) = rest_at(alloc, &both, in_loop, left, fuel, rest)?;
+            seen.add(Meaning::Variable(second), behind_set(tokens))?;
+            let (others, after) = rest_at(alloc, &both, seen, in_loop, left, fuel, rest)?;
             Ok((then(alloc, first, others)?, after))
         }
     }
@@ -163,6 +170,7 @@ fn lines_at<'a>(
 fn line_at<'a>(
     alloc: Global,
     names: &Names,
+    seen: &mut Declared,
     in_loop: bool,
     fuel: u16,
     tokens: &'a [Token],
@@ -194,16 +202,16 @@ fn line_at<'a>(
         Kind::While => {
             let (condition, after) = condition_at(alloc, names, rest)?;
             let inner = Names::Inner(true, &*names);
-            let (body, after) = block_at(alloc, &inner, true, fuel - 1, after)?;
+            let (body, after) = block_at(alloc, &inner, seen, true, fuel - 1, after)?;
             let step = asked_again(alloc, names, rest)?;
             Ok((looped(alloc, condition, body, step)?, after))
         }
-        Kind::For => for_at(alloc, names, fuel - 1, rest),
+        Kind::For => for_at(alloc, names, seen, fuel - 1, rest),
         Kind::If => {
             let (condition, after) = condition_at(alloc, names, rest)?;
             let inner = Names::Inner(false, &*names);
-            let (then, after) = block_at(alloc, &inner, in_loop, fuel - 1, after)?;
-            let (other, after) = otherwise_at(alloc, names, in_loop, fuel - 1, after)?;
+            let (then, after) = block_at(alloc, &inner, seen, in_loop, fuel - 1, after)?;
+            let (other, after) = otherwise_at(alloc, names, seen, in_loop, fuel - 1, after)?;
             Ok((choice(alloc, condition, then, other)?, after))
         }
         _ => Err(fault_at(tokens, Wrong::Unexpected)),
@@ -216,6 +224,7 @@ fn line_at<'a>(
 fn branch_at<'a>(
     alloc: Global,
     names: &Names,
+    seen: &mut Declared,
     in_loop: bool,
     fuel: u16,
     tokens: &'a [Token],
@@ -227,12 +236,12 @@ fn branch_at<'a>(
         return Err(fault_at(tokens, Wrong::TooLong));
     }
     match next_ask(names, tokens) {
-        None => line_at(alloc, names, in_loop, fuel - 1, tokens),
+        None => line_at(alloc, names, seen, in_loop, fuel - 1, tokens),
         Some(asked) => {
             let number = new_number(names, tokens)?;
             let (given, behind) = given_at(alloc, names, number, asked)?;
             let inner = Names::Asked(asked.len(), behind.len(), number, &*names);
-            let (branch, after) = branch_at(alloc, &inner, in_loop, fuel - 1, tokens)?;
+            let (branch, after) = branch_at(alloc, &inner, seen, in_loop, fuel - 1, tokens)?;
             Ok((then(alloc, given, branch)?, after))
         }
     }
@@ -243,6 +252,7 @@ fn branch_at<'a>(
 fn for_at<'a>(
     alloc: Global,
     names: &Names,
+    seen: &mut Declared,
     fuel: u16,
     tokens: &'a [Token],
 ) -> Result<(Stmt, &'a [Token]), ReadError>
@@ -250,21 +260,12 @@ fn for_at<'a>(
         (for_at (stmt_at fuel) (names_of names.now) tokens.entry.now) }
 {
     let (count, rest) = count_at(alloc, names, tokens)?;
-    let Count {
-        name,
-        index,
-        end,
-        low,
-        high,
-        by,
-    } = count;
-    let named = Names::Name(name, Meaning::Counter(index), &*names);
+    let index = Meaning::Counter(count.index);
+    let named = Names::Name(count.name, index, &*names);
+    seen.add(index, tokens)?;
     let inner = Names::Inner(true, &named);
-    let (body, after) = block_at(alloc, &inner, true, fuel, rest)?;
-    Ok((
-        counting_loop(alloc, index, end, by, low, high, body)?,
-        after,
-    ))
+    let (body, after) = block_at(alloc, &inner, seen, true, fuel, rest)?;
+    Ok((counted(alloc, count, body)?, after))
 }
 
 /// What may follow the block of an `if`: `else`, which may stand on a line of its own.
@@ -273,6 +274,7 @@ fn for_at<'a>(
 fn otherwise_at<'a>(
     alloc: Global,
     names: &Names,
+    seen: &mut Declared,
     in_loop: bool,
     fuel: u16,
     tokens: &'a [Token],
@@ -288,8 +290,8 @@ fn otherwise_at<'a>(
     };
     let inner = Names::Inner(false, &*names);
     if is_if(rest) {
-        branch_at(alloc, &inner, in_loop, fuel - 1, rest)
+        branch_at(alloc, &inner, seen, in_loop, fuel - 1, rest)
     } else {
-        block_at(alloc, &inner, in_loop, fuel - 1, rest)
+        block_at(alloc, &inner, seen, in_loop, fuel - 1, rest)
     }
 }

@@ -2,7 +2,7 @@
 use arena_compile::CompileFault;
 
 /// Why a source is not run.
-#[derive(Clone, Copy, Debug, PartialEq, Eq)]
+#[derive(Clone, Copy)]
 pub enum SourceError {
     /// An allocation failed.
     Memory,

@@ -8,7 +8,7 @@ returns-in-Ok c = λ gs functions said no.
 pub returns-in-Ok-function_place : goal.returns-in-Ok-function_place
 returns-in-Ok-function_place c = λ gs functions said no.
     let refused = rw c.in-Refused.is at no in
-    c.fault_of.ensures gs c.args.text.now (record { functions = functions; said = said; number = c.in-Refused.number; begins = c.in-Ok-function_place.ensures; has = refused })
+    c.fault_of.ensures gs c.args.text.now (record { functions = functions; said = said; begins = c.in-Ok-function_place.ensures; has = refused })
 
 pub returns-in-Ok-function_place-2 : goal.returns-in-Ok-function_place-2
 returns-in-Ok-function_place-2 c = λ gs functions said no.

@@ -1,0 +1,11 @@
+//! Values of variables, computed again where the variables are read.
+#![tactic(auto)]
+
+mod costs;
+mod laws;
+mod reading;
+mod touching;
+
+pub use costs::cost_of;
+pub use laws::again_is_compiled;
+pub use reading::read_again;
