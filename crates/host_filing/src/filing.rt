@@ -259,8 +259,11 @@ impl Filing {
                 ms,
             },
         );
-        // It is missing among those that are shown, and nowhere else.
-        let _ = self.show(alloc, &unfiled.end, seconds(rt), ms, fate);
+        let is_dumped = fate == Fate::Dumped;
+        // Without memory it is missing among those that are shown, and nowhere else.
+        if let Ok(shown) = closed_term(alloc, &unfiled.end, seconds(rt), ms, is_dumped) {
+            let _ = self.show(shown);
+        }
         Filed {
             tenant: unfiled.tenant,
             term: number,
@@ -279,16 +282,7 @@ impl Filing {
     }
 
     /// Shows a term among the last ones that were closed.
-    fn show(
-        &mut self,
-        alloc: Global,
-        end: &TermEnd,
-        ended: u64,
-        ms: u64,
-        fate: Fate,
-    ) -> Result<(), AllocError> {
-        let is_dumped = fate == Fate::Dumped;
-        let shown = closed_term(alloc, end, ended, ms, is_dumped)?;
+    fn show(&mut self, shown: ClosedTerm) -> Result<(), AllocError> {
         if self.closed.len() >= SHOWN {
             self.closed.remove(0);
         }

@@ -1,4 +1,5 @@
 // The files of a term that is closed, and what is told of it.
+ghost use Rattle.std.specs.Prelude.{◌≡◌, IfOk};
 
 use crate::office::Office;
 use dump_files::{Broken, Whole};
@@ -108,7 +109,12 @@ pub(super) fn closed_term(
     ended: u64,
     ms: u64,
     is_dumped: bool,
-) -> Result<ClosedTerm, AllocError> {
+) -> Result<ClosedTerm, AllocError>
+    ensures term { IfOk result (λ shown. shown.term ≡ end.now.span.number) }
+    ensures base { IfOk result (λ shown. shown.base ≡ end.now.span.base) }
+    ensures times { IfOk result (λ shown. (shown.began ≡ end.now.began) × (shown.ended ≡ ended) × (shown.ms ≡ ms)) }
+    ensures dumped { IfOk result (λ shown. shown.dumped ≡ is_dumped) }
+{
     let named = end.tenant.tenant().name;
     let (entries, fault) = match &end.end {
         Some(Ok(closed)) => (closed.history.len(), None),

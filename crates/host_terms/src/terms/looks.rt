@@ -1,6 +1,6 @@
 // How far a term is, and its jobs are.
-ghost use Rattle.std.specs.Prelude.{IfSome};
-ghost use Rattle.host_terms.specs.Looks.{IsLooked};
+ghost use Rattle.std.specs.Prelude.{◌≡◌, IfSome, Some, true};
+ghost use Rattle.host_terms.specs.Looks.{HadNothingToDo, IsDone, IsLooked, WasFull};
 ghost use Rattle.host_terms.specs.Bookings.{seen_of};
 
 use super::HostTerm;
@@ -9,23 +9,39 @@ use server_house::Told;
 use std::alloc::{AllocError, Global};
 use std::sync::Wait;
 use tenant_book::Naming;
+use tenant_lock::TenantDoor;
 use tenant_model::MAX_JOBS;
 use term_life::{Outcome, is_used};
 
 impl<J: Naming> HostTerm<J> {
     /// Whether nothing is left that can be done: no row is open, and each job has its outcome; or the history is full;
     /// or all rows that are open wait to be started, and the tenant has no slot for workers.
-    pub(crate) fn is_quiet<R: Wait>(&self, rt: &R) -> bool {
-        let Some(door) = self.door() else {
-            return true;
-        };
+    pub(crate) fn is_quiet<R: Wait>(&self, rt: &R) -> bool
+        ensures { result ≡ true → IsDone (seen_of self.now) self.now.tenant }
+    {
+        match self.door() {
+            Some(door) => self.has_nothing_to_do(rt, door) || self.is_full(rt, door),
+            None => true,
+        }
+    }
+
+    fn has_nothing_to_do<R: Wait>(&self, rt: &R, door: &TenantDoor<J>) -> bool
+        requires { (seen_of self.now).life ≡ Some door.now.life }
+        ensures { result ≡ true → HadNothingToDo (seen_of self.now) self.now.tenant }
+    {
         let tenant = self.tenant.tenant();
-        let mut me = door.front();
-        let tally = door.tally(rt, &mut me);
+        let tally = door.tally(rt, &mut door.front());
         let has_no_slot = tenant.reserved >= tenant.slots;
         (tally.open_rows == 0 && tally.jobs.running == 0)
             || (has_no_slot && tally.open_rows == tally.waiting_rows)
-            || door.counts(rt, &mut me).entries >= tenant.steps
+    }
+
+    /// Whether its history is full.
+    fn is_full<R: Wait>(&self, rt: &R, door: &TenantDoor<J>) -> bool
+        requires { (seen_of self.now).life ≡ Some door.now.life }
+        ensures { result ≡ true → WasFull (seen_of self.now) self.now.tenant }
+    {
+        door.counts(rt, &mut door.front()).entries >= self.tenant.tenant().steps
     }
 
     /// Whether its history has that many per cent of its steps.
