@@ -1,8 +1,3 @@
-// A short life of each part of the fast arena.
-mod cells;
+// What no clause says of the parts of the fast arena.
 mod contexts;
-mod groups;
-mod nests;
 mod places;
-mod pools;
-mod regions;

@@ -1,20 +1,16 @@
-// A tenant behind its door, from a submitted job to the history.
+// A tenant behind its door.
 ghost use Rattle.std.specs.Prelude.{◌≡◌, IfSome};
 
-mod asking;
 mod closing;
 mod handing;
 mod pauses;
-mod running;
 mod waits;
 
-use job_language::{
-    Came, Fuel, Instr, Isolation, Job, Level, Moved, Proc, Program, Register, Reply, Request,
-    Tenant, TenantConfig, TenantName,
-};
+use job_json::read_canonical_job;
+use job_language::{Came, Moved, Reply, Request, TenantConfig};
 use market_config::Call;
 pub(super) use pauses::{pause, waiting};
-use std::alloc::{AllocError, Global};
+use std::alloc::Global;
 use std::slice;
 use std::sync::Wait;
 use std::test::Fail;
@@ -27,16 +23,7 @@ pub(super) const CALL: Call = Call { tenant: 0, slot: 1 };
 
 /// A tenant of so many slots, the first of them reserved, whose history has room for so many entries.
 pub(super) fn tenant(slots: u8, steps: usize) -> Result<TenantConfig, Fail> {
-    let tenant = Tenant {
-        name: TenantName::new("acme").ok_or("a name")?,
-        priority: Level::Normal,
-        isolation: Isolation::Exact,
-        slots,
-        reserved: 1,
-        rows: 128,
-        steps,
-    };
-    let config = TenantConfig::new(tenant).ok_or("a tenant")?;
+    let config = worked_jobs::tenant("acme", slots, 1, steps).ok_or("a tenant")?;
     Ok(config)
 }
 
@@ -45,21 +32,7 @@ fn two_slots() -> Result<TenantConfig, Fail> {
 }
 
 /// A job that returns its first argument, 7.
-fn returning_seven(alloc: Global) -> Option<Job> {
-    let fuel = Fuel::new(10)?;
-    Some(Job {
-        program: returning(alloc, Register::new(0)?).ok()?,
-        args: [7, 0],
-        fuel,
-    })
-}
-
-/// A program that returns what a register has.
-fn returning(alloc: Global, register: Register) -> Result<Program, AllocError> {
-    let instrs = vec![in alloc; Instr::Ret(register)]?;
-    let procs = vec![in alloc; Proc::new(instrs)]?;
-    Program::new(alloc, procs)
-}
+const RETURNS_SEVEN: &str = r#"{"args":[7,0],"fuel":10,"procs":[[["ret",0]]]}"#;
 
 /// Closes the door, whose history begins with what it shows to whoever comes.
 pub(in crate::tests) fn closed<J: Naming, R: Wait>(
@@ -96,7 +69,7 @@ fn submit<J: Naming, R: Wait>(
     door: &TenantDoor<J>,
     seat: &mut Seat,
 ) -> Option<Answer> {
-    let job = returning_seven(alloc)?;
+    let job = read_canonical_job(alloc, RETURNS_SEVEN.as_bytes())?;
     ask(rt, door, seat, Request::Submit(job))
 }
 
@@ -179,37 +152,6 @@ pub(super) fn advance<J: Naming, R: Wait>(
         pass,
     } = door.advance(rt, &mut door.front(), pass);
     (Some(moved), pass)
-}
-
-/// What two arrivals and two advances are answered, and whether the pass went home.
-type Worked = ([Came; 2], [Option<Moved>; 2], bool);
-
-/// A worker arrives and advances twice, and another arrives between.
-fn work_and_leave<J: Naming, R: Wait>(rt: &R, door: &TenantDoor<J>) -> Worked {
-    let (first, pass) = arrive(rt, door, CALL);
-    let (ran, pass) = advance(rt, door, pass);
-    let (second, other) = arrive(rt, door, CALL);
-    give_home(rt, door, other);
-    let (left, pass) = advance(rt, door, pass);
-    let is_home = pass.is_none();
-    give_home(rt, door, pass);
-    ([first, second], [ran, left], is_home)
-}
-
-/// What is answered where the job is submitted, where a worker runs it, and where it is polled.
-type Answers = (Option<Answer>, Worked, Option<Reply>);
-
-/// Submits the job by the first seat, lets a worker run it, and polls it.
-fn run<J: Naming, R: Wait>(
-    rt: &R,
-    alloc: Global,
-    door: &TenantDoor<J>,
-    seats: &mut [Seat],
-) -> Option<Answers> {
-    let seat = seats.first_mut()?;
-    let made = submit(rt, alloc, door, seat);
-    let worked = work_and_leave(rt, door);
-    Some((made, worked, poll(rt, door, seat, 1)))
 }
 
 /// Submits the job by the first seat, and lets a worker arrive at it. The worker's pass.

@@ -2,8 +2,7 @@
 ghost use Rattle.std.specs.Prelude.{◌≡◌};
 
 use super::{
-    CALL, advance, arrive, ask, closed, give_home, own, run, submit, submit_and_run, submit_first,
-    two_slots,
+    CALL, advance, arrive, closed, give_home, own, submit, submit_and_run, submit_first, two_slots,
 };
 use crate::tests::assert_same;
 use job_language::{Came, Moved};

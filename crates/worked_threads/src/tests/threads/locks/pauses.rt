@@ -3,9 +3,10 @@ ghost use Rattle.std.specs.Prelude.{◌≡◌};
 
 use super::{CALL, Moving, advance, arrive, ask, give_home, poll, tenant};
 use crate::tests::assert_same;
-use job_language::{Fuel, Group, Instr, Job, Moved, Proc, Program, Register, Request};
+use job_json::read_canonical_job;
+use job_language::{Job, Moved, Request};
 use market_config::Call;
-use std::alloc::{AllocError, Global};
+use std::alloc::Global;
 use std::marker::Brand;
 use std::process::Abort;
 use std::sync::Wait;
@@ -17,23 +18,12 @@ use tenant_lock::TenantDoor;
 use tenant_record::{Pass, Seat};
 
 /// A job that spawns a task and waits for it.
-pub(in crate::tests::threads) fn waiting(alloc: Global) -> Option<Job> {
-    let fuel = Fuel::new(10)?;
-    Some(Job {
-        program: spawning(alloc, Register::new(0)?, Group::new(0)?).ok()?,
-        args: [7, 0],
-        fuel,
-    })
-}
+const WAITS: &str =
+    r#"{"args":[7,0],"fuel":10,"procs":[[["spawn",0,1,0,0],["wait",0,0,0],["ret",0]],[["ret",0]]]}"#;
 
-/// A program that spawns a task and waits for it.
-fn spawning(alloc: Global, register: Register, group: Group) -> Result<Program, AllocError> {
-    let spawn = Instr::Spawn(group, 1, register, register);
-    let wait = Instr::Wait(register, register, group);
-    let instrs = vec![in alloc; spawn, wait, Instr::Ret(register)]?;
-    let rest = vec![in alloc; Instr::Ret(register)]?;
-    let procs = vec![in alloc; Proc::new(instrs), Proc::new(rest)]?;
-    Program::new(alloc, procs)
+/// That job.
+pub(in crate::tests::threads) fn waiting(alloc: Global) -> Option<Job> {
+    read_canonical_job(alloc, WAITS.as_bytes())
 }
 
 /// Lets a worker run the job until it waits for the task, which another worker has: what the last advance is answered,
