@@ -51,6 +51,7 @@ STEPS = (
     step("checks/pages/run.py", 0.1, over_proofs=False),
     step("checks/edges/run.py", 0.1, over_proofs=False),
     step("checks/sizes/run.py", 0.1, over_proofs=False),
+    step("checks/numbers/run.py", 0.1, over_proofs=False),
     step("checks/build/recorded.py", 0.1, over_proofs=False),
     step("checks/edits/run.py --read", 0.1, over_proofs=False),
     step("checks/examples/run.sh", 0.6, over_proofs=False),
