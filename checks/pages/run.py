@@ -16,7 +16,7 @@ The rules; what is in allowed.txt, with its reason, is let through:
 5. Of several words each is one of those, or stands in some string of the code.
 6. In `f(x)` by itself, f is a function, type or variant, or a whole string of the code.
 7. Where a crate's page says "seen as `X`", a type of the crate has X as its Value.
-8. A crate has a page, with the five headings of SECTIONS in their order and no others, and at most MOST_LINES lines.
+8. A crate has a page, with the four headings of SECTIONS in their order and no others, and at most MOST_LINES lines.
 A word of one letter, or of capitals alone, stands for what a reader puts there.
 """
 import pathlib
@@ -31,7 +31,7 @@ from tree import WORD, Tree
 ENDS = "md|py|rt|antt|sh|job|jasm|json|jsonl|svg|txt|edit|bash|toml|service|crt|pem|deb"
 OWN_PARTS = ("src/", "specs/", "proofs/", "must-fail/")
 TOPS = ("benches/", "checks/", "crates/", "docs/", "examples/", "packaging/", "python/")
-SECTIONS = ("What it is for", "What a contract sees", "What is proved", "What is only tested", "Uses")
+SECTIONS = ("What it is for", "What a contract sees", "What is proved", "What is only tested")
 MOST_LINES = 60
 MEMBER = re.compile(r"\b\w+(?:::\w+)+")
 

@@ -22,6 +22,7 @@ PROMISES = [
     ("the check of a history", ["solo_eval::check"]),
     ("functions that are compiled", ["job_compiler::compile_function", "job_compiler::compile_in", "job_compiler::compile_program"]),
     ("functions that keep numbers", ["kept_numbers::keep_number", "kept_numbers::kept_is_compiled"]),
+    ("functions that compute values again", ["values_again::read_again", "values_again::again_is_compiled"]),
     ("functions whose registers are chosen", ["register_choice::compile_function", "register_choice::compile_in", "register_choice::compile_program", "register_choice::is_coloured"]),
     ("values of functions", ["source_serial::source_values", "source_serial::jobs_have_source_values"]),
     ("rows of functions", ["source_rows::rows_follow_source", "source_rows::advances_follow_source"]),
