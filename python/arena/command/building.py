@@ -35,18 +35,17 @@ def build(call: Call) -> int:
         call.output.say("serial" if done.serial else "not serial", {"serial": bool(done.serial)})
         return Status.DONE
     found = proved_of(call)
-    line = found.line if found else None
+    text = found.text if found else None
     if words.map:
-        if line is not None:
+        if text is not None:
             call.output.complain(f"{words.FILE}: the map is of the job compiled in Python, which --python builds")
         write(call, line_of({**done.source_map(), "procs": done.job.to_value()["procs"]}))
         return Status.DONE
     if found is not None:
         call.output.complain(found.told(words.FILE))
-    if words.S:
-        write(call, (done.listing() if line is None else listing_of(line)).rstrip("\n"))
-    else:
-        write(call, line or line_of(done.job.to_value()))
+    if text is None:
+        text = done.listing().rstrip("\n") if words.S else line_of(done.job.to_value())
+    write(call, text)
     return Status.DONE
 
 
@@ -56,14 +55,7 @@ def proved_of(call: Call) -> Proved | None:
     words = call.words
     if words.python or words.fuel is not None:
         return None
-    return proved(read_text(words.FILE), tuple(words.args or ()), words.define or ())
-
-
-def listing_of(line: str) -> str:
-    """The listing of a JOB of the proved compiler, which tells no names of registers and no lines of the source."""
-    from arena.assembler import disassemble
-    from arena.jobs import Job
-    return disassemble(Job.from_value(json.loads(line)))
+    return proved(read_text(words.FILE), tuple(words.args or ()), words.define or (), lists=bool(words.S))
 
 
 def asm(call: Call) -> int:
@@ -118,7 +110,7 @@ COMMANDS = (
             "which line of the source each instruction is of (`arena stat --map` reads it), and --serial whether the "
             "job is serial. The JOB is that of arena-compile, which is proved, if ARENA_COMPILE or the PATH has it and it "
             "takes the source, without --fuel and --python; standard error then says which compiler made it, and -S "
-            "lists its instructions without names and lines.",
+            "then lists its instructions with the names of its procedures, and no lines.",
             "arena build queens.job -D N=8 -o queens.json", build,
             (*JOB_WORDS, option("-S", help="the listing: labels, registers by name, source lines", action="store_true"),
              option("--map", help="the source line of each instruction, as JSON", action="store_true"),
