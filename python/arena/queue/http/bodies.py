@@ -100,7 +100,7 @@ def _program(value: Mapping[str, Any], kept: Callable[[str], Program | None]) ->
         return compiled(it)
     program = kept(it)
     if program is None:
-        raise BadBody("program: no job that is kept has a program with that hash; send its source or procs")
+        raise BadBody("program: none with that hash is kept for this tenant; send its source or procs")
     return program
 
 

@@ -21,7 +21,7 @@ _NEW = {
     "type": "object", "additionalProperties": False, "description": "with one of source, procs and program",
     "properties": {
         "source": {"type": "string"}, "procs": {"type": "array", "items": {"type": "array", "items": {}}},
-        "program": {"type": "string", "description": "the hash of a program that a kept job of the tenant has"},
+        "program": {"type": "string", "description": "the hash of a program that a kept job of the tenant has, or that `arena queue program` keeps"},
         "args": {"type": "array", "items": _NUMBER, "minItems": 2, "maxItems": 2}, "fuel": {"type": "integer"},
         "key": {"type": "string", "maxLength": 200}, "priority": {"type": "integer"}, "delay": {"type": "number"},
         "failures": {"type": "integer"}}}
