@@ -101,7 +101,7 @@ TAKEN = {"divisors.job", "fib.job", "hash.job", "keeper.job", "longest.job", "pa
          "serial.job", "sum.job"}
 """The examples that arena-compile takes."""
 
-MOST_FUEL = 1.31
+MOST_FUEL = 1.25
 """How many times the fuel of the job by the compiler in Python one by arena-compile may use, for the examples, on one slot."""
 
 HEAD = re.compile(r"^fn |\bp(?:sum|min|max) ")

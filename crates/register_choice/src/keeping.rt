@@ -1,4 +1,4 @@
-// Numbers in registers of their own, as long as there are enough.
+// Values in registers of their own, as long as there are enough.
 ghost use Rattle.std.specs.Prelude.{◌≡◌, ◌<◌, List, IfOk, IfErr};
 ghost use Rattle.std.specs.List.{All};
 ghost use Rattle.job_language.specs.declared.instructions.Instr.{Instr};
@@ -9,15 +9,15 @@ ghost use Rattle.register_choice.specs.Keeping.{IsBetter};
 use crate::compile::{ChoiceError, compile_function};
 use job_compiler::are_calls;
 use job_language::Proc;
-use kept_numbers::{keep_number, kept_is_compiled, most_read};
+use kept_values::{keep_best, kept_value_is_compiled};
 use source_language::Function;
 use std::alloc::{AllocError, Global};
 
-/// How many numbers of a function get registers of their own at most.
-pub(crate) const MOST_KEPT: u8 = 4;
+/// How many values of a function get registers of their own at most.
+pub(crate) const MOST_KEPT: u8 = 8;
 
-// The procedure of a function that keeps one number more, if there is one that it reads more than once and
-// registers are enough for it.
+// The procedure of a function that keeps one value more, if there is one that saves instructions and registers are
+// enough for it.
 fn with_one_more(
     alloc: Global,
     procs: usize,
@@ -26,14 +26,10 @@ fn with_one_more(
     requires { IsFunction function.old }
     ensures { IfOk result (IsBetter procs function.old function.new) }
 {
-    kept_is_compiled();
-    let Some(number) = most_read(function) else {
-        return Ok(None);
-    };
-    if function.variables == u8::MAX {
+    kept_value_is_compiled();
+    if !keep_best(alloc, function)? {
         return Ok(None);
     }
-    keep_number(alloc, function, number)?;
     match compile_function(alloc, function) {
         Ok(proc) => {
             if are_calls(procs, proc.instrs()) {
@@ -47,13 +43,13 @@ fn with_one_more(
     }
 }
 
-/// The procedure of a function that keeps as many of the numbers that it reads as there are registers for, those first
-/// that it reads most, but no more than so many. The function is no longer what it was.
+/// The procedure of a function that keeps as many of the values that it reads as there are registers for, those first
+/// that save most, but no more than so many. The function is no longer what it was.
 pub(crate) fn with_kept(
     alloc: Global,
     procs: usize,
     function: &mut Function,
-    numbers: u8,
+    values: u8,
     plain: Proc,
 ) -> Result<Proc, AllocError>
     requires function { IsFunction function.old }
@@ -64,11 +60,11 @@ pub(crate) fn with_kept(
     ensures valid { IfOk result IsValidProc }
     ensures calls { IfOk result (All (Calls procs)) }
 {
-    if numbers == 0 {
+    if values == 0 {
         return Ok(plain);
     }
     match with_one_more(alloc, procs, function)? {
-        Some(proc) => with_kept(alloc, procs, function, numbers - 1, proc),
+        Some(proc) => with_kept(alloc, procs, function, values - 1, proc),
         None => Ok(plain),
     }
 }

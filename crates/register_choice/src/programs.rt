@@ -28,8 +28,8 @@ pub enum ChoiceProgramError {
 
 /// The program of functions, numbered from 0: the root runs the first one. Each of its procedures
 /// does the same as the function of its number, over registers that are chosen where it needs more
-/// than there are. Numbers that it reads more than once have registers of their own where some are left: the
-/// functions are changed for that, and are of no use afterwards.
+/// than there are. Values that it computes more than once, and numbers, have registers of their own where some are
+/// left: the functions are changed for that, and are of no use afterwards.
 pub fn compile_program(
     alloc: Global,
     functions: &mut [Function],

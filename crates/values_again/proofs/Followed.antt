@@ -1,5 +1,5 @@
 -- A function that computes a value again does what it did without.
-use Rattle.std.proofs.Common.{◌≡◌, ℕ, zero, suc, ◌-◌, ◌<◌, ℤ, pos, Bool, true, false, if◌then◌else◌, List, [], ◌∷◌, length, get_or, set, replicate}
+use Rattle.std.proofs.Common.{◌≡◌, ℕ, zero, suc, ◌-◌, ◌<◌, ◌≤◌, ℤ, pos, Bool, true, false, if◌then◌else◌, List, [], ◌∷◌, length, get_or, set, replicate}
 use Rattle.std.proofs.Common.{Option, Some, None, option_map, refl, sym, ap, ap₂, subst, ◌∙◌, arith, length-set, get_or-set_same, get_or-set_other}
 use Rattle.std.proofs.lemmas.List.{length-replicate}
 use Rattle.job_language.specs.declared.instructions.Instr.{Instr}
@@ -199,9 +199,9 @@ module _ (v n slot width : ℕ) (low : v < n) where
   events_alike zero q q' points answers = refl
   events_alike (suc k) q q' (At {vars = vars} {todo = todo} {todo' = todo'} alike) answers = by_match k (events_alike k) vars todo todo' (on vars alike.long alike.has alike.again) answers
 
-module _ (v : ℕ) (f f' : Function) (good : IsFunction f) (reads : ReadsAgain v f f') (slot width : ℕ) (x y : ℤ) where
+module _ (v : ℕ) (f f' : Function) (parameters : 2 ≤ f.variables) (reads : ReadsAgain v f f') (slot width : ℕ) (x y : ℤ) where
   first_long : length (x ∷ y ∷ replicate (f.variables - 2) (pos 0)) ≡ f.variables
-  first_long = omega (arith, length-replicate (f.variables - 2) (pos 0), good.parameters)
+  first_long = omega (arith, length-replicate (f.variables - 2) (pos 0), parameters)
 
   at_start : Points v f.variables slot width reads.low (start f x y) (start f' x y)
   at_start = subst (λ k. Points v f.variables slot width reads.low (start f x y) (record { vars = x ∷ y ∷ replicate (k - 2) (pos 0); todo = Do f'.body ∷ [] })) (sym reads.variables)
@@ -214,6 +214,10 @@ module _ (v : ℕ) (f f' : Function) (good : IsFunction f) (reads : ReadsAgain v
         (found.0, sym (events_alike v f.variables slot width reads.low found.0 (start f x y) (start f' x y) at_start answers) ∙ found.1);
   }
 
+-- It needs no more of the function than its parameters.
+pub again_followed : (v : ℕ) (f f' : Function) (instrs : List Instr) → 2 ≤ f.variables → ReadsAgain v f f' → IsCompiled f' instrs → IsCompiled f instrs
+again_followed v f f' instrs parameters reads compiled procs p slot width x y here low_slot low_width fx fy =
+    does_the_same v f f' parameters reads slot width x y procs (new_frame p x y) (compiled procs p slot width x y here low_slot low_width fx fy)
+
 pub again_compiled : (v : ℕ) (f f' : Function) (instrs : List Instr) → IsFunction f → ReadsAgain v f f' → IsCompiled f' instrs → IsCompiled f instrs
-again_compiled v f f' instrs good reads compiled procs p slot width x y here low_slot low_width fx fy =
-    does_the_same v f f' good reads slot width x y procs (new_frame p x y) (compiled procs p slot width x y here low_slot low_width fx fy)
+again_compiled v f f' instrs good = again_followed v f f' instrs good.parameters

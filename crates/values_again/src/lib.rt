@@ -8,4 +8,5 @@ mod touching;
 
 pub use costs::cost_of;
 pub use laws::again_is_compiled;
-pub use reading::read_again;
+pub use reading::{copy_of, read_again};
+pub use touching::{is_free, is_untouched};

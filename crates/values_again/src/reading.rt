@@ -7,7 +7,8 @@ use crate::touching::{is_free, is_untouched};
 use source_language::{Expr, Function, Stmt, Test};
 use std::alloc::{AllocError, Global};
 
-fn copy_of(alloc: Global, e: &Expr) -> Result<Expr, AllocError>
+/// An expression that has the same value.
+pub fn copy_of(alloc: Global, e: &Expr) -> Result<Expr, AllocError>
     ensures { IfOk result (λ r. (slot width : ℕ) (vars : List ℤ)
         → value_of r slot width vars ≡ value_of e.now slot width vars) }
 {

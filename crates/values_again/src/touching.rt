@@ -5,7 +5,7 @@ ghost use Rattle.values_again.specs.Again.{IsFree, IsKept, IsOneKept, IsMakerKep
 use source_language::{Expr, Maker, Stmt};
 
 /// Whether an expression does not read a variable.
-pub(crate) fn is_free(x: u8, e: &Expr) -> bool
+pub fn is_free(x: u8, e: &Expr) -> bool
     ensures { IsTrue result → IsFree x e.now }
 {
     match e {
@@ -44,7 +44,7 @@ fn is_maker_kept(v: u8, e: &Expr, maker: Maker) -> bool
 }
 
 /// Whether a statement gives nothing to a variable, nor to what its value reads.
-pub(crate) fn is_untouched(v: u8, e: &Expr, s: &Stmt) -> bool
+pub fn is_untouched(v: u8, e: &Expr, s: &Stmt) -> bool
     ensures { IsTrue result → IsUntouched v e.now s.now }
 {
     match s {

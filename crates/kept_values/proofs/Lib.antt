@@ -1,0 +1,4 @@
+pub mod KeptFollowed
+pub mod Parts
+pub mod Unread
+pub mod Valued
