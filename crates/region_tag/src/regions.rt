@@ -1,7 +1,7 @@
 // The finite map from open rows to their regions.
 ghost use Rattle.std.specs.Prelude.{IfSome, ◌≡◌, ◌<◌, ◌≤◌, None, Some, IsNone, IfOk, length, replicate, slice_index_or, slice_set};
 ghost use Rattle.std.specs.Option.{ForSome};
-ghost use Rattle.region_tag.specs.Region.{IsEntered, region_of, is_within, same_region, tagged, around, get, IsNested};
+ghost use Rattle.region_tag.specs.Region.{IsEntered, region_of, is_within, tagged, around, get, IsNested};
 
 use crate::row_id::RowId;
 use std::alloc::{AllocError, Global};
@@ -84,13 +84,6 @@ impl Regions {
         // Proof hint: brings the type's invariant into scope for the clause `nested`.
         let _ = &self.rows;
         self.get(row)?.tag
-    }
-
-    /// Whether two tags are the same.
-    pub fn same(a: Option<RowId>, b: Option<RowId>) -> bool
-        ensures { result ≡ same_region a b }
-    {
-        a == b
     }
 
     /// Whether the region of a tag is another one or inside it.
