@@ -1,6 +1,7 @@
 -- The lines of a world's script can all be taken and answered.
 use Rattle.std.proofs.Common.{◌≡◌, ℕ, List, Option, Some, None, inl, refl}
 use Rattle.job_language.specs.Configuration.{Configuration, names_of}
+use Rattle.request_reader.specs.LineConfigs.{config_in}
 use Rattle.request_reader.specs.Lines.{Line, whole, too_long}
 use Rattle.tenant_model.specs.State.{State}
 use Rattle.world_model.specs.Raw.{Raw}
@@ -11,7 +12,6 @@ use Rattle.world_model.specs.declared.outcomes.Outcome.TheVariants.{NotNow}
 use Rattle.world_script.specs.Knowing.{Knows, Named, Starts}
 use Rattle.world_script.specs.Named.{raw_of}
 use Rattle.world_script.specs.RawLines.{RawData}
-use Rattle.market_config.specs.Lines.{config_in}
 use Rattle.world_script.specs.Takes.{TakesRaw, TakesStep, step_in, told}
 use Rattle.arena_script.specs.Answered.{AnswersLater, AnswersPart}
 use Rattle.arena_script.specs.RunAnswers.{StartsRun, TakesLine, TellsOutcome}

@@ -1,10 +1,10 @@
 -- The bytes that answer the lines of a world's script.
 use Rattle.std.specs.Prelude.{◌≡◌, ℕ, List, Option, None}
 use Rattle.job_language.specs.Configuration.{Configuration, names_of}
+use Rattle.request_reader.specs.LineConfigs.{config_in}
 use Rattle.request_reader.specs.Lines.{Line, whole, too_long}
 use Rattle.world_model.specs.World.{World, start}
 use Rattle.world_model.specs.declared.outcomes.Outcome.{Outcome}
-use Rattle.market_config.specs.Lines.{config_in}
 use Rattle.world_script.specs.Takes.{TakesStep, step_in, told}
 use Rattle.arena_script.specs.Answered.{AnswersFrom, StartsFrom, HasNoFirst}
 

@@ -1,3 +1,2 @@
 pub mod Config
-pub mod Lines
 pub mod Told

@@ -4,11 +4,9 @@
 mod calls;
 mod config;
 mod names;
-mod reading;
 mod telling;
 
 pub use calls::Call;
 pub use config::{MarketConfig, MarketTenant};
 pub use names::names_of;
-pub use reading::config_in;
 pub use telling::market_config;

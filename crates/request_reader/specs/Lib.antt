@@ -4,6 +4,7 @@ pub mod Blank
 pub mod Buffered
 pub mod Exact
 pub mod LineAsks
+pub mod LineConfigs
 pub mod LineReads
 pub mod Lines
 pub mod Newlines

@@ -1,7 +1,8 @@
-//! Reading what a client asks: lines of bytes, and the requests that they spell.
+//! Reading what a client asks: lines of bytes, and the requests and configurations that they spell.
 #![tactic(auto)]
 
 mod canonical;
+mod configs;
 mod job_requests;
 mod lines;
 mod newlines;
@@ -10,6 +11,7 @@ mod sources;
 mod turns;
 mod windows;
 
+pub use configs::config_in;
 pub use job_requests::ready;
 pub use lines::{LineRead, LineReader};
 pub use requests::{Asked, MAX_REQUEST, is_blank, read_request, request_of, value_in};

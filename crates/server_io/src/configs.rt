@@ -1,11 +1,11 @@
 // The configuration of a server, from the bytes of its file.
 ghost use Rattle.std.specs.Prelude.{◌≡◌, ◌≤◌, ◌⊎◌, ◌<◌, Some, None, Err, IfErr, IfOk, length};
 ghost use Rattle.server_io.specs.declared.ends.ServerFault.TheVariants as end;
-ghost use Rattle.market_config.specs.Lines.{config_in};
+ghost use Rattle.request_reader.specs.LineConfigs.{config_in};
 
 use crate::ends::ServerFault;
 use job_language::Config;
-use market_config::config_in;
+use request_reader::config_in;
 use std::alloc::Global;
 
 /// How many bytes the file of a configuration may have.

@@ -1,9 +1,9 @@
 use Rattle.std.proofs.Common.{rules, Some, ◌≡◌, ◌∷◌}
 use Rattle.job_language.specs.Configuration.{names_of}
+use Rattle.request_reader.specs.LineConfigs.{config_in}
 use Rattle.request_reader.specs.Lines.{whole}
 use Rattle.world_model.specs.World.{start}
 use Rattle.world_script.specs.Knowing.{Starts}
-use Rattle.market_config.specs.Lines.{config_in}
 use Rattle.arena_script.specs.ScriptLines.{script_lines, all_lines}
 use Rattle.arena_script.proofs.Answering.{on_ok-map}
 use Rattle.arena_script.proofs.Running.{started, later_part}

@@ -1,10 +1,10 @@
 // A configuration, from the bytes of a line.
 ghost use Rattle.std.specs.Prelude.{◌≡◌, IfOk};
-ghost use Rattle.market_config.specs.Lines.{config_in};
+ghost use Rattle.request_reader.specs.LineConfigs.{config_in};
 
+use crate::requests::value_in;
 use job_json::{Refused, read_config};
 use job_language::Config;
-use request_reader::value_in;
 use std::alloc::{AllocError, Global};
 
 /// The configuration that a line holds, if it holds one. It fails only if an allocation failed.
