@@ -129,7 +129,10 @@ impl Filing {
             return None;
         }
         let now = millis(rt);
-        let place = self.waiting.iter().position(|unfiled| unfiled.rest <= now)?;
+        let place = self
+            .waiting
+            .iter()
+            .position(|unfiled| unfiled.trial.is_due(now))?;
         let unfiled = self.waiting.remove(place);
         self.begin(rt, alloc, office, writer, unfiled)
     }
@@ -217,14 +220,10 @@ impl Filing {
             Some(named.as_str()),
             Some(unfiled.end.span.number),
         );
-        let now = millis(rt);
-        let until = unfiled.until.unwrap_or(now.saturating_add(PATIENCE));
-        if until <= now {
+        if !unfiled.trial.fail(millis(rt), PATIENCE, REST) {
             let fate = Fate::unwritten(&unfiled.end);
             return Some(self.finish(rt, alloc, office, unfiled, fate));
         }
-        unfiled.until = Some(until);
-        unfiled.rest = now.saturating_add(REST);
         self.add(rt, alloc, office, unfiled)
     }
 

@@ -5,6 +5,7 @@ use host_records::TermEnd;
 use std::alloc::Global;
 use std::fs::File;
 use std::sync::{Condvar, Mutex, Wait};
+use term_life::Trial;
 
 /// A term that is closed, with the part of the file that its history is written to.
 #[derive(Drop)]
@@ -27,10 +28,8 @@ pub struct UnfiledTerm {
     pub end: TermEnd,
     /// When its end began, in milliseconds of the monotonic clock.
     pub since: u64,
-    /// Until when its files are tried again, once one could not be written, in the same milliseconds.
-    pub until: Option<u64>,
-    /// Until when to wait before they are tried again.
-    pub rest: u64,
+    /// When its files are tried again, once one could not be written, in the same milliseconds.
+    pub trial: Trial,
     /// Whether its end was printed.
     pub is_told: bool,
 }
@@ -42,8 +41,7 @@ impl Drop for UnfiledTerm {
             tenant: _tenant,
             end: _end,
             since: _since,
-            until: _until,
-            rest: _rest,
+            trial: _trial,
             is_told: _is_told,
         } = self;
     }

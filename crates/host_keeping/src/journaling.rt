@@ -9,6 +9,7 @@ use std::sync::atomic::Ordering;
 use std::thread;
 use std::time::{Clock, Duration};
 use tenant_book::Naming;
+use term_life::Beat;
 
 /// How often histories are brought to their journals, in milliseconds.
 const SECOND: u64 = 1000;
@@ -26,13 +27,15 @@ pub fn keep_journals<J: Naming, R: Wait + Clock>(
     if durable == Durable::Off {
         return;
     }
-    let mut last = millis(rt);
+    let mut beat = Beat {
+        every: SECOND,
+        last: millis(rt),
+    };
     for _turn in rt.forever() {
         if context.progress.is_over.load(Ordering::SeqCst) {
             return;
         }
-        if millis(rt).saturating_sub(last) >= SECOND {
-            last = millis(rt);
+        if beat.is_due(millis(rt)) {
             context.host.catch_up(rt, alloc, durable != Durable::Write);
         }
         thread::sleep(rt, Duration::from_millis(TICK));

@@ -13,23 +13,17 @@ use std::alloc::Global;
 use std::sync::Wait;
 use std::time::Clock;
 use tenant_book::Naming;
-use term_life::Why;
+use term_life::{Beat, Order, Step, Tending, Why};
 
-/// How many terms of a tenant may be there at once, whether they serve, finish, or wait to be written. Each has its
-/// history in memory.
-const MOST_TERMS: usize = 8;
+/// How often orders by files are looked for, in milliseconds.
+const BETWEEN_LOOKS: u64 = 50;
 
 /// What the thread keeps of a tenant.
 #[derive(Clone, Copy)]
 struct Tended {
-    /// Until when no term of it is opened, in milliseconds of the monotonic clock.
-    rest: u64,
-    /// Whether it was said that its next term waits.
-    is_held: bool,
-    /// Whether the configuration has it.
-    is_configured: bool,
-    /// Whether a file that asked for its next term is still there though that was begun.
-    is_obeyed: bool,
+    tending: Tending,
+    /// The file that asks for its next term.
+    order: Order,
 }
 
 /// A term that is to be closed once no worker is there.
@@ -49,10 +43,10 @@ pub struct Keeper<J: Naming> {
     tended: Vec<Tended>,
     parting: Vec<Parting<J>>,
     filing: Filing,
-    /// Whether a file that asked for the next term of all tenants is still there though that was begun.
-    is_obeyed: bool,
-    /// When orders were last looked for, in milliseconds of the monotonic clock.
-    looked: u64,
+    /// The file that asks for the next term of all tenants.
+    order: Order,
+    /// When orders are looked for.
+    looks: Beat,
 }
 
 impl<J: Naming> Drop for Keeper<J> {
@@ -63,8 +57,8 @@ impl<J: Naming> Drop for Keeper<J> {
             tended: _tended,
             parting: _parting,
             filing: _filing,
-            is_obeyed: _is_obeyed,
-            looked: _looked,
+            order: _order,
+            looks: _looks,
         } = self;
     }
 }
@@ -77,8 +71,11 @@ impl<J: Naming> Keeper<J> {
             tended: Vec::new(alloc),
             parting: Vec::new(alloc),
             filing,
-            is_obeyed: false,
-            looked: 0,
+            order: Order::new(),
+            looks: Beat {
+                every: BETWEEN_LOOKS,
+                last: 0,
+            },
         }
     }
 
@@ -123,30 +120,24 @@ impl<J: Naming> Keeper<J> {
         let Some(tended) = self.tended.get_mut(tenant) else {
             return;
         };
-        if !tended.is_configured {
-            return tenancy.refuse(rt);
-        }
-        if millis(rt) < tended.rest {
-            return tenancy.refuse_waits(rt);
-        }
-        if tenancy.count(rt) >= MOST_TERMS {
-            let is_new = !tended.is_held;
-            tended.is_held = true;
-            tenancy.hold(rt);
-            if is_new {
-                say_waiting(rt, alloc, context, tenancy, why);
+        match tended.tending.step(millis(rt), tenancy.count(rt)) {
+            Step::Refuse => tenancy.refuse(rt),
+            Step::Rest => tenancy.refuse_waits(rt),
+            Step::Hold { is_new } => {
+                // Who waits for it waits for a term to be closed.
+                tenancy.hold(rt);
+                if is_new {
+                    say_waiting(rt, alloc, context, tenancy, why);
+                }
             }
-            // Who waits for it waits for a term to be closed.
-            return;
+            Step::Open => self.rotate(rt, alloc, context, tenant, tenancy, why),
         }
-        tended.is_held = false;
-        self.rotate(rt, alloc, context, tenant, tenancy, why);
     }
 
     /// Lets all terms take no new jobs, since the host stops.
     pub fn leave_all<R: Wait>(&mut self, rt: &R, context: HostContext<'_, J>) {
         for (tenant, tended) in self.tended.iter_mut().enumerate() {
-            tended.is_configured = false;
+            tended.tending.configure(false);
             if let Some(tenancy) = context.host.tenancy(rt, tenant) {
                 tenancy.leave(rt, Why::Stop);
                 tenancy.refuse(rt);

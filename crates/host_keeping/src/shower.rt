@@ -9,6 +9,7 @@ use std::fs::{File, Files};
 use std::sync::Wait;
 use std::time::Clock;
 use tenant_book::Naming;
+use term_life::Beat;
 
 /// How often the status is written, in milliseconds.
 const SECOND: u64 = 1000;
@@ -16,14 +17,18 @@ const SECOND: u64 = 1000;
 /// When the status was written.
 #[derive(Clone, Copy)]
 pub struct Shower {
-    /// When the status was last written, in milliseconds of the monotonic clock.
-    shown: u64,
+    shown: Beat,
 }
 
 impl Shower {
     /// The status was not written yet.
     pub fn new() -> Shower {
-        Shower { shown: 0 }
+        Shower {
+            shown: Beat {
+                every: SECOND,
+                last: 0,
+            },
+        }
     }
 
     /// Writes the status, once a second.
@@ -34,7 +39,7 @@ impl Shower {
         context: HostContext<'_, J>,
         keeper: &Keeper<J>,
     ) {
-        if millis(rt).saturating_sub(self.shown) >= SECOND {
+        if self.shown.is_due(millis(rt)) {
             self.show_now(rt, alloc, context, keeper);
         }
     }
@@ -47,7 +52,7 @@ impl Shower {
         context: HostContext<'_, J>,
         keeper: &Keeper<J>,
     ) {
-        self.shown = millis(rt);
+        self.shown.last = millis(rt);
         // The next one is written within a second.
         let _ = show(rt, alloc, context, keeper.filing().closed());
     }

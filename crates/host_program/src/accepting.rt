@@ -11,7 +11,7 @@ use std::sync::atomic::Ordering;
 use std::thread;
 use std::time::{Clock, Duration};
 use tenant_book::Naming;
-use term_life::Patience;
+use term_life::{Beat, Patience};
 
 /// How long to wait if the system can't be asked what happens, in milliseconds.
 const PAUSE: u64 = 20;
@@ -37,8 +37,14 @@ pub(crate) fn accept_all<J: Naming, R: Wait + Clock>(
     let mut reception = reception;
     let mut has_left = false;
     let mut done = Done {
-        reported: 0,
-        looked: 0,
+        reported: Beat {
+            every: BETWEEN_REPORTS,
+            last: 0,
+        },
+        looked: Beat {
+            every: BETWEEN_LOOKS,
+            last: 0,
+        },
         refused: None,
     };
     for _turn in rt.forever() {
@@ -83,14 +89,14 @@ fn attend<J: Naming, R: Wait + Clock>(
     }
 }
 
-/// When the thread did what it does from time to time, in milliseconds of the monotonic clock.
+/// When the thread does what it does from time to time.
 #[derive(Clone, Copy)]
 struct Done {
-    /// Reported that a connection was not accepted.
-    reported: u64,
-    /// Looked for connections that do nothing.
-    looked: u64,
-    /// Reported that hellos were refused, if it has.
+    /// Reports that a connection was not accepted.
+    reported: Beat,
+    /// Looks for connections that do nothing.
+    looked: Beat,
+    /// When it reported that hellos were refused, if it has, in milliseconds of the monotonic clock.
     refused: Option<u64>,
 }
 
@@ -104,8 +110,7 @@ impl Done {
         reception: &Reception<'_, J>,
         now: u64,
     ) {
-        if now.saturating_sub(self.looked) >= BETWEEN_LOOKS {
-            self.looked = now;
+        if self.looked.is_due(now) {
             cut(rt, alloc, context, reception, now);
             self.tell_refused(rt, alloc, context, now);
         }
@@ -119,8 +124,7 @@ impl Done {
         context: HostContext<'_, J>,
         now: u64,
     ) {
-        if now.saturating_sub(self.reported) >= BETWEEN_REPORTS {
-            self.reported = now;
+        if self.reported.is_due(now) {
             context.say_fault(rt, alloc, Fault::Accept, None, None);
         }
     }

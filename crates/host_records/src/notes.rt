@@ -1,5 +1,6 @@
 // What a tenant forgets of its closed terms, noted in a file that outlives the host: which jobs were released, and
 // before which term all jobs are retired.
+ghost use Rattle.std.specs.Prelude.{◌≡◌, false};
 
 use std::alloc::Global;
 use std::fs::File;
@@ -19,7 +20,9 @@ pub struct Notes {
 
 impl Notes {
     /// Notes at the end of a file. If they are synced, a reply waits until its note is on the disk.
-    pub fn new(file: File, is_synced: bool) -> Notes {
+    pub fn new(file: File, is_synced: bool) -> Notes
+        ensures { result ≡ record { file = file; is_synced = is_synced; has_failed = false } }
+    {
         Notes {
             file,
             is_synced,
@@ -42,7 +45,10 @@ impl Notes {
     }
 
     /// Whether the file has failed since this was asked last.
-    pub fn take_failure(&mut self) -> bool {
+    pub fn take_failure(&mut self) -> bool
+        ensures failed { result ≡ self.old.has_failed }
+        ensures taken { self.new ≡ record self.old { has_failed = false } }
+    {
         let has_failed = self.has_failed;
         self.has_failed = false;
         has_failed

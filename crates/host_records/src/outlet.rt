@@ -1,4 +1,7 @@
 // What a host prints and reports, which threads of their own write: nobody else waits for whoever reads it.
+ghost use Rattle.std.specs.Prelude.{◌≡◌, ◌<◌, ◌+◌, ◌^◌, ◌&&◌, ◌==◌, length, take};
+ghost use Rattle.term_life.specs.Spans.{capped};
+ghost use Rattle.host_records.specs.Outlets.{owed, worth, worth_if};
 
 use host_status::Event;
 use std::alloc::{AllocError, Global};
@@ -18,6 +21,18 @@ enum Line {
     Lost(u64),
 }
 
+impl Line {
+    /// How many lines it tells of.
+    fn worth(&self) -> u64
+        ensures { result ≡ worth self.now }
+    {
+        match self {
+            Line::Text(_) => 1,
+            Line::Lost(lines) => *lines,
+        }
+    }
+}
+
 /// Lines that wait.
 #[derive(Drop)]
 struct Lines {
@@ -31,32 +46,48 @@ struct Lines {
 
 impl Lines {
     /// Adds a line. Without room for it, it is lost, and so is each one until there is room for two.
-    fn add(&mut self, text: String) {
+    fn add(&mut self, text: String)
+        ensures order { take (length self.old.waiting.items) self.new.waiting.items
+            ≡ self.old.waiting.items }
+        ensures owed { owed self.old + 1 < 2 ^ 64 → owed self.new ≡ owed self.old + 1 }
+    {
         if self.lost > 0 && self.waiting.len() + 1 < ROOM {
             let lost = self.lost;
             self.lost = 0;
-            self.push(Line::Lost(lost), lost);
+            self.push(Line::Lost(lost));
         }
         if self.lost > 0 {
             self.lose(1);
         } else {
-            self.push(Line::Text(text), 1);
+            self.push(Line::Text(text));
         }
     }
 
-    /// Adds what stands for that many lines. Without room for it, these are lost.
-    fn push(&mut self, line: Line, worth: u64) {
+    /// Adds a line, or what stands for several. Without room for it, these are lost.
+    #[tactic(auto, using(crate::proofs::Lines::one_more))]
+    fn push(&mut self, line: Line)
+        ensures order { take (length self.old.waiting.items) self.new.waiting.items
+            ≡ self.old.waiting.items }
+        ensures owed { owed self.old + worth line < 2 ^ 64
+            → owed self.new ≡ owed self.old + worth line }
+    {
+        let worth = line.worth();
         if self.waiting.len() >= ROOM || self.waiting.push_back(line).is_err() {
             self.lose(worth);
         }
     }
 
-    fn lose(&mut self, lines: u64) {
+    fn lose(&mut self, lines: u64)
+        ensures { self.new ≡ record self.old { lost = capped (self.old.lost + lines) } }
+    {
         self.lost = self.lost.saturating_add(lines);
     }
 
     /// The next line, or what was lost after the last one. None if all is written.
-    fn take(&mut self) -> Option<Line> {
+    #[tactic(auto, using(crate::proofs::Lines::one_less))]
+    fn take(&mut self) -> Option<Line>
+        ensures { owed self.old ≡ worth_if result + owed self.new }
+    {
         let next = self.waiting.pop_front();
         if next.is_none() && self.lost > 0 {
             let lost = self.lost;
@@ -66,7 +97,9 @@ impl Lines {
         next
     }
 
-    fn is_empty(&self) -> bool {
+    fn is_empty(&self) -> bool
+        ensures { result ≡ ((length self.now.waiting.items == 0) && (self.now.lost == 0)) }
+    {
         self.waiting.is_empty() && self.lost == 0
     }
 }

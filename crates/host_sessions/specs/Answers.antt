@@ -4,7 +4,7 @@ use Rattle.job_language.specs.declared.answers.Reply.{Reply}
 use Rattle.job_language.specs.declared.answers.Reply.TheVariants.{Refused, Pending}
 use Rattle.job_language.specs.declared.errors.Error.TheVariants.{Busy, HistoryFull, NoMemory, NoTenant}
 use Rattle.job_language.specs.declared.requests.Request.{Request}
-use Rattle.job_language.specs.declared.requests.Request.TheVariants.{Poll, Collect, Take, Cancel, Release, Submit, Execute}
+use Rattle.job_language.specs.declared.requests.Request.TheVariants.{Poll, Collect, Take, Cancel, Release, Submit, Execute, Retire}
 use Rattle.nested_wait.specs.declared.attending.Attended.{Attended}
 use Rattle.nested_wait.specs.declared.attending.Attended.TheVariants.{Full}
 use Rattle.host_terms.specs.Bookings.{TermSeen, IsAt, IsOf}
@@ -13,6 +13,7 @@ use Rattle.server_house.specs.declared.owned.Told.{Told}
 use Rattle.server_house.specs.Owned.{AsksThere}
 use Rattle.server_house.specs.Posts.{ClientSeen}
 use Rattle.term_life.specs.declared.spans.Span.{Span}
+use Rattle.term_life.specs.Outcomes.{is_release}
 use Rattle.term_life.specs.Spans.{has_job, reply_outside, request_inside}
 
 abbrev pub brings_job : Request → Bool
@@ -79,13 +80,22 @@ pub record IsFromClosed (request : Request) (reply : Reply) : Type 0 where
   pub named : job_named request ≡ Some job
   pub answer : IsKeptAnswer request job reply
 
+-- how a request is refused if it can't be noted what it has the tenant forget
+abbrev pub IsUnnoted : Reply → Type 0
+IsUnnoted reply = (reply ≡ Refused NoMemory) ⊎ (reply ≡ Refused HistoryFull)
+
+-- No term serves, or what is forgotten can't be noted: neither is asked of a request that only looks for a job, or cancels it.
+abbrev pub MayLackTerm : Request → Type 0
+MayLackTerm request = (job_named request ≡ None) ⊎ (is_release request ≡ true)
+
 -- the host's own refusals
-abbrev pub IsRefusedHere : Reply → Type 0
-IsRefusedHere reply = (reply ≡ Refused NoMemory) ⊎ ((reply ≡ Refused HistoryFull) ⊎ (reply ≡ Refused Busy))
+abbrev pub IsRefusedHere : Request → Reply → Type 0
+IsRefusedHere request reply =
+    (reply ≡ Refused NoMemory) ⊎ (((reply ≡ Refused HistoryFull) × MayLackTerm request) ⊎ ((reply ≡ Refused Busy) × (request ≡ Retire)))
 
 -- how the terms that serve one after another answer a request to the tenant of that name
 abbrev pub IsServed : (name : List ℕ) → Request → Reply → Type 0
-IsServed name request reply = IsFromTerm name request reply ⊎ IsRefusedHere reply
+IsServed name request reply = IsFromTerm name request reply ⊎ IsRefusedHere request reply
 
 -- The request names no job. A term of the tenant of that name was asked, or it is refused.
 pub record IsFromServing (name : List ℕ) (request : Request) (reply : Reply) : Type 0 where
@@ -94,7 +104,7 @@ pub record IsFromServing (name : List ℕ) (request : Request) (reply : Reply) :
 
 -- how a session of a host is answered that is bound to the tenant of that name
 abbrev pub IsAnswer : (name : List ℕ) → Request → Reply → Type 0
-IsAnswer name request reply = IsFromOwner name request reply ⊎ (IsFromServing name request reply ⊎ (IsFromClosed request reply ⊎ IsRefusedHere reply))
+IsAnswer name request reply = IsFromOwner name request reply ⊎ (IsFromServing name request reply ⊎ (IsFromClosed request reply ⊎ IsRefusedHere request reply))
 
 -- how a session of a host is answered, by the name of the tenant that it is bound to, if it is
 abbrev pub IsAnswered : (name : Option (List ℕ)) → Request → Reply → Type 0

@@ -93,6 +93,7 @@ impl<'h, J: Naming, R: Wait + Clock> HostDoors<'h, J, R> {
 
     /// Asks the term that serves, or the next one if its history is full.
     fn ask_serving(&self, tenancy: &Tenancy<J>, request: Request) -> Served
+        requires { job_named request ≡ None }
         ensures answer { IsServed (name_of tenancy.now) request result.reply }
         ensures at_once { result.reply ≢ Reply.Pending }
     {

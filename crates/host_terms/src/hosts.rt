@@ -1,5 +1,6 @@
 // What all threads of a host share.
-ghost use Rattle.std.specs.Prelude.{◌≡◌, IfErr, IfOk};
+ghost use Rattle.std.specs.Prelude.{◌≡◌, IfErr, IfOk, IfSome, false};
+ghost use Rattle.host_terms.specs.Looks.{IsDone};
 ghost use Rattle.host_terms.specs.Names.{admitted_name};
 ghost use Rattle.host_terms.specs.Refusals.{IsRefusal};
 
@@ -149,7 +150,10 @@ impl<J: Naming> Host<J> {
         tenant: usize,
         desks: &[Desk<J>],
         is_forced: bool,
-    ) -> Result<Option<Ending<J>>, AllocError> {
+    ) -> Result<Option<Ending<J>>, AllocError>
+        ensures { IfOk result (λ found. IfSome found (λ ending.
+            is_forced ≡ false → IsDone ending.term ending.config)) }
+    {
         let Some(tenancy) = self.tenancy(rt, tenant) else {
             return Ok(None);
         };

@@ -19,7 +19,7 @@ use server_io::ServerFault;
 use std::alloc::{AllocError, Global};
 use std::sync::{Arc, Condvar, Mutex, Wait};
 use tenant_book::Naming;
-use term_life::{Outcome, Outcomes, Span, Term, Terms, Why};
+use term_life::{Outcome, Outcomes, Span, Term, Terms, Why, Wishes};
 
 /// What is kept under the lock.
 #[derive(Drop)]
@@ -31,14 +31,7 @@ struct Lives<J: Naming> {
     outcomes: Outcomes,
     /// The jobs of terms before the one of this number are retired.
     retired: u64,
-    /// Why the term that serves is to be left, or one is to be opened, if it is.
-    wish: Option<Why>,
-    /// Whether no term can be opened now.
-    is_refused: bool,
-    /// Whether the next term waits until an older one is closed.
-    is_held: bool,
-    /// Whether the host stops, and no term is opened any more.
-    is_stopped: bool,
+    wishes: Wishes,
 }
 
 impl<J: Naming> Lives<J> {
@@ -94,10 +87,7 @@ impl<J: Naming> Tenancy<J> {
                 live: Vec::new(alloc),
                 outcomes: Outcomes::new(alloc, keep),
                 retired: 0,
-                wish: None,
-                is_refused: false,
-                is_held: false,
-                is_stopped: false,
+                wishes: Wishes::new(),
             }),
             changed: Condvar::new(),
             notes: Mutex::new(None),
@@ -165,31 +155,28 @@ impl<J: Naming> Tenancy<J> {
 
     /// Asks for the term that serves to be left for the next one.
     pub fn wish<R: Wait>(&self, rt: &R, why: Why) {
-        let mut lives = self.lives.lock(rt);
-        if lives.wish.is_none() {
-            lives.wish = Some(why);
-        }
+        self.lives.lock(rt).wishes.wish(why);
     }
 
     /// Why the term that serves is to be left for the next one, if it is.
     pub fn wished<R: Wait>(&self, rt: &R) -> Option<Why> {
-        self.lives.lock(rt).wish
+        self.lives.lock(rt).wishes.wished()
     }
 
     /// The same as `refuse_waits`, and what was wished is forgotten.
     pub fn refuse<R: Wait>(&self, rt: &R) {
-        self.lives.lock(rt).wish = None;
-        self.refuse_waits(rt);
+        self.lives.lock(rt).wishes.refuse();
+        self.changed.notify_all();
     }
 
     /// The next term waits until an older one is closed.
     pub fn hold<R: Wait>(&self, rt: &R) {
-        self.lives.lock(rt).is_held = true;
+        self.lives.lock(rt).wishes.hold();
     }
 
     /// No term can be opened now: nobody waits for one any longer.
     pub fn refuse_waits<R: Wait>(&self, rt: &R) {
-        self.lives.lock(rt).is_refused = true;
+        self.lives.lock(rt).wishes.put_off();
         self.changed.notify_all();
     }
 
@@ -234,9 +221,7 @@ impl<J: Naming> Tenancy<J> {
         // There is room for it.
         let _added = roster.add(tenant, handle);
         lives.live.push_reserved(term);
-        lives.wish = None;
-        lives.is_refused = false;
-        lives.is_held = false;
+        lives.wishes.begin();
         self.changed.notify_all();
         Ok(())
     }

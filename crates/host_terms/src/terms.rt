@@ -149,7 +149,9 @@ impl<J: Naming> HostTerm<J> {
     }
 
     /// What its tenant is given.
-    pub fn tenant(&self) -> &TenantConfig {
+    pub fn tenant(&self) -> &TenantConfig
+        ensures { result.now ≡ self.now.tenant }
+    {
         &self.tenant
     }
 

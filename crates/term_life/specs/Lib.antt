@@ -4,4 +4,7 @@ pub mod Outcomes
 pub mod Paces
 pub mod Patiences
 pub mod Spans
+pub mod Tendings
+pub mod Trials
 pub mod Turns
+pub mod Wishes

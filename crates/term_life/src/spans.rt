@@ -1,7 +1,8 @@
 // The numbers of a term's jobs, in the term and outside of it.
-ghost use Rattle.std.specs.Prelude.{◌≡◌};
+ghost use Rattle.std.specs.Prelude.{◌≡◌, ◌≤◌, ◌<◌, ◌+◌, IfSome, None};
 ghost use Rattle.term_life.specs.Spans.{has_job, inside, outside, reply_outside, request_inside};
 
+use crate::terms::MOST_JOBS;
 use job_language::{Reply, Request};
 
 /// Which term it is, and the numbers of its jobs.
@@ -16,6 +17,20 @@ pub struct Span {
 }
 
 impl Span {
+    /// The next term of a tenant, by its number and the one after which its jobs are numbered: it has a number for each
+    /// of the `steps` entries that its history may have. None if there are not as many.
+    pub fn next(number: u64, base: u64, steps: usize) -> Option<Span>
+        ensures span { IfSome result (λ span. span ≡ record { number = number; base = base; room = steps }) }
+        ensures room { IfSome result (λ span. span.base + span.room ≤ MOST_JOBS) }
+        ensures none { result ≡ None → MOST_JOBS < base + steps }
+    {
+        let room = steps as u64;
+        if base > MOST_JOBS || room > MOST_JOBS - base {
+            return None;
+        }
+        Some(Span { number, base, room })
+    }
+
     /// Whether that is the number of one of its jobs, outside.
     pub fn owns(&self, job: u64) -> bool
         ensures { result ≡ has_job job self.now }

@@ -10,7 +10,7 @@ use server_io::ServerFault;
 use std::alloc::{AllocError, Global};
 use std::sync::{Arc, Wait};
 use tenant_book::Naming;
-use term_life::{MOST_JOBS, Outcome, Span, Why};
+use term_life::{MOST_JOBS, Order, Outcome, Span, Tending, Why};
 
 impl<J: Naming> Keeper<J> {
     /// Takes the tenants of a configuration: those that are new are known from now on, and those whose term serves by
@@ -23,13 +23,13 @@ impl<J: Naming> Keeper<J> {
         config: &Config,
     ) -> Result<(), ServerFault> {
         for tended in self.tended.iter_mut() {
-            tended.is_configured = false;
+            tended.tending.configure(false);
         }
         for tenant in config.tenants() {
             self.adopt_tenant(rt, alloc, context, tenant)?;
         }
         for tenant in 0..self.tended.len() {
-            if !self.tended[tenant].is_configured {
+            if !self.tended[tenant].tending.is_configured() {
                 if let Some(tenancy) = context.host.tenancy(rt, tenant) {
                     tenancy.leave(rt, Why::Config);
                 }
@@ -50,7 +50,7 @@ impl<J: Naming> Keeper<J> {
             return self.add_tenant(rt, alloc, context, tenant);
         };
         if let Some(tended) = self.tended.get_mut(number) {
-            tended.is_configured = true;
+            tended.tending.configure(true);
         }
         let Some(tenancy) = context.host.tenancy(rt, number) else {
             return Ok(());
@@ -93,10 +93,8 @@ impl<J: Naming> Keeper<J> {
         self.tended.reserve(1)?;
         context.host.add(rt, alloc, tenancy)?;
         self.tended.push_reserved(Tended {
-            rest: 0,
-            is_held: false,
-            is_configured: true,
-            is_obeyed: false,
+            tending: Tending::new(),
+            order: Order::new(),
         });
         Ok(())
     }

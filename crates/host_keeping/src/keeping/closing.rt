@@ -9,6 +9,7 @@ use std::fs::{File, Files};
 use std::sync::Wait;
 use std::time::Clock;
 use tenant_book::Naming;
+use term_life::Trial;
 
 impl<J: Naming> Keeper<J> {
     /// Takes out the terms that are done, closes those where nobody is any more, and goes on with their files. If it is
@@ -98,8 +99,7 @@ impl<J: Naming> Keeper<J> {
             tenant,
             end,
             since,
-            until: None,
-            rest: 0,
+            trial: Trial::new(),
             is_told: false,
         };
         let filed = self.filing.add(rt, alloc, context.office, unfiled);

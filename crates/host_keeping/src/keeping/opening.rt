@@ -1,6 +1,5 @@
 // The thread that looks after terms opens the next one of a tenant.
-ghost use Rattle.std.specs.Prelude.{◌≡◌, ◌≤◌, ◌<◌, ◌+◌, IfSome, None};
-ghost use Rattle.term_life.specs.declared.terms.TheConstants.{MOST_JOBS};
+ghost use Rattle.std.specs.Prelude.{◌≡◌, IfSome};
 
 use super::Keeper;
 use crate::context::HostContext;
@@ -14,7 +13,7 @@ use std::fs::{File, Files};
 use std::sync::Wait;
 use std::time::Clock;
 use tenant_book::Naming;
-use term_life::{MOST_JOBS, Span, Why};
+use term_life::{Span, Why};
 
 /// How long a tenant rests whose term could not be opened, in milliseconds.
 const REST: u64 = 1000;
@@ -55,7 +54,7 @@ impl<J: Naming> Keeper<J> {
             let what = event_fault(fault);
             context.say_fault(rt, alloc, what, Some(named.as_str()), None);
             if let Some(tended) = self.tended.get_mut(tenant) {
-                tended.rest = millis(rt).saturating_add(REST);
+                tended.tending.rest(millis(rt), REST);
             }
             if why == Why::History || why == Why::Journal {
                 tenancy.refuse_waits(rt);
@@ -111,7 +110,7 @@ impl<J: Naming> Keeper<J> {
             return Ok(());
         };
         let (number, base) = tenancy.next(rt);
-        let Some(span) = next_span(number, base, &given) else {
+        let Some(span) = Span::next(number, base, given.tenant().steps) else {
             context.say_fault(rt, alloc, Fault::Numbers, Some(named.as_str()), None);
             return Err(ServerFault::Device);
         };
@@ -192,22 +191,10 @@ fn say_opened<J: Naming, R: Wait + Clock>(
     );
 }
 
-/// The next term of a tenant, by its number and the one after which its jobs are numbered: it has a number for each
-/// entry of its history. None if there are not as many.
-fn next_span(number: u64, base: u64, given: &TenantConfig) -> Option<Span>
-    ensures span { IfSome result (λ span. span ≡ record { number = number; base = base; room = given.now.steps }) }
-    ensures room { IfSome result (λ span. span.base + span.room ≤ MOST_JOBS) }
-    ensures none { result ≡ None → MOST_JOBS < base + given.now.steps }
-{
-    let room = given.tenant().steps as u64;
-    if base > MOST_JOBS || room > MOST_JOBS - base {
-        return None;
-    }
-    Some(Span { number, base, room })
-}
-
 /// What the tenant of a name is given by a configuration.
-fn config_named(config: &Config, name: &str) -> Option<TenantConfig> {
+fn config_named(config: &Config, name: &str) -> Option<TenantConfig>
+    ensures { IfSome result (λ given. given.name ≡ name.now) }
+{
     config
         .tenants()
         .iter()

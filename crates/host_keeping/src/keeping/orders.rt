@@ -8,10 +8,7 @@ use std::fs;
 use std::fs::{File, Files};
 use std::sync::Wait;
 use tenant_book::Naming;
-use term_life::Why;
-
-/// How often orders by files are looked for, in milliseconds.
-const BETWEEN_LOOKS: u64 = 50;
+use term_life::{Order, Why};
 
 impl<J: Naming> Keeper<J> {
     /// Looks whether files ask for next terms: `rotate` for one of each tenant, and `rotate.NAME` for one of that
@@ -22,16 +19,11 @@ impl<J: Naming> Keeper<J> {
         alloc: Global,
         context: HostContext<'_, J>,
     ) {
-        let now = millis(rt);
-        if now.saturating_sub(self.looked) < BETWEEN_LOOKS {
+        if !self.looks.is_due(millis(rt)) {
             return;
         }
-        self.looked = now;
         let path = context.office.folder.rotate.as_str();
-        if fs::symlink_metadata(rt, path).is_err() {
-            self.is_obeyed = false;
-        } else if !self.is_obeyed {
-            self.is_obeyed = fs::remove_file(rt, path).is_err();
+        if is_ordered(rt, path, &mut self.order) {
             self.rotate_all(rt, alloc, context);
         }
         for tenant in 0..self.tended.len() {
@@ -71,12 +63,18 @@ impl<J: Naming> Keeper<J> {
         let Some(tended) = self.tended.get_mut(tenant) else {
             return Ok(());
         };
-        if fs::symlink_metadata(rt, path.as_str()).is_err() {
-            tended.is_obeyed = false;
-        } else if !tended.is_obeyed {
-            tended.is_obeyed = fs::remove_file(rt, path.as_str()).is_err();
+        if is_ordered(rt, path.as_str(), &mut tended.order) {
             tenancy.wish(rt, Why::File);
         }
         Ok(())
     }
+}
+
+/// Whether what the file at a path asks for is to be begun now. The file is removed then, if it can be.
+fn is_ordered<R: Files<File = File>>(rt: &R, path: &str, order: &mut Order) -> bool {
+    let is_new = order.look(fs::symlink_metadata(rt, path).is_ok());
+    if is_new && fs::remove_file(rt, path).is_ok() {
+        order.forget();
+    }
+    is_new
 }

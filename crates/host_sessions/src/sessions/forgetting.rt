@@ -1,8 +1,9 @@
 // What a session has its tenant forget of closed terms.
-ghost use Rattle.std.specs.Prelude.{◌≡◌, ◌≢◌, ◌⊎◌};
-ghost use Rattle.host_sessions.specs.Answers.{IsRefusedHere, IsServed};
+ghost use Rattle.std.specs.Prelude.{◌≡◌, ◌≢◌, ◌⊎◌, true};
+ghost use Rattle.host_sessions.specs.Answers.{IsServed, IsUnnoted};
 ghost use Rattle.host_terms.specs.Looks.{IsKeptAnswer};
 ghost use Rattle.host_terms.specs.Names.{name_of};
+ghost use Rattle.term_life.specs.Outcomes.{is_release};
 
 use super::HostDoors;
 use crate::numbering::Served;
@@ -18,7 +19,8 @@ use tenant_book::Naming;
 impl<'h, J: Naming, R: Wait + Clock> HostDoors<'h, J, R> {
     /// Releases a job, by its number outside, whose term is closed, once that is noted.
     pub(super) fn let_go(&self, tenancy: &Tenancy<J>, job: u64, request: &Request) -> Reply
-        ensures { IsKeptAnswer request.now job result ⊎ IsRefusedHere result }
+        requires { is_release request.now ≡ true }
+        ensures { IsKeptAnswer request.now job result ⊎ IsUnnoted result }
     {
         match tenancy.note_release(self.rt, self.alloc, job) {
             Ok(()) => tenancy.answer_closed(self.rt, job, request),
@@ -29,7 +31,7 @@ impl<'h, J: Naming, R: Wait + Clock> HostDoors<'h, J, R> {
     /// What the session is told if it could not be noted what is forgotten. Unless that was for lack of memory, the
     /// client is told nothing: its connection ends.
     fn unnoted(&self, fault: &io::Error) -> Reply
-        ensures refused { IsRefusedHere result }
+        ensures refused { IsUnnoted result }
         ensures at_once { result ≢ Reply.Pending }
     {
         if fault.kind() == ErrorKind::OutOfMemory {
@@ -58,7 +60,7 @@ impl<'h, J: Naming, R: Wait + Clock> HostDoors<'h, J, R> {
     /// once that is noted.
     fn retire_before(&self, tenancy: &Tenancy<J>, term: u64, reply: Reply) -> Reply
         requires { reply ≢ Reply.Pending }
-        ensures answer { (result ≡ reply) ⊎ IsRefusedHere result }
+        ensures answer { (result ≡ reply) ⊎ IsUnnoted result }
         ensures at_once { result ≢ Reply.Pending }
     {
         if tenancy.has_jobs_before(self.rt, term) {

@@ -1,4 +1,8 @@
 // A tenant's terms are left, and taken out once their jobs have their outcomes.
+ghost use Rattle.std.specs.Prelude.{◌≡◌, ◌<◌, IfOk, IfSome, false, length, slice_get};
+ghost use Rattle.std.specs.Arc.{arc_value};
+ghost use Rattle.host_terms.specs.Bookings.{seen_of};
+ghost use Rattle.host_terms.specs.Looks.{IsDone, IsDoneTerm};
 
 use super::{Lives, Tenancy};
 use crate::desks::Desk;
@@ -7,7 +11,7 @@ use crate::roster::Roster;
 use std::alloc::{AllocError, Global};
 use std::sync::{Mutex, Wait};
 use tenant_book::Naming;
-use term_life::Why;
+use term_life::{Outcome, Why};
 
 impl<J: Naming> Lives<J> {
     /// Why the term of that number was left, if it was.
@@ -18,6 +22,61 @@ impl<J: Naming> Lives<J> {
             .find(|term| term.number == number)
             .and_then(|term| term.why)
     }
+
+    /// The place of the oldest term that was left and where nothing is left that can be done, or, if it is forced, of the
+    /// oldest that was left.
+    fn done<R: Wait>(&self, rt: &R, is_forced: bool) -> Option<usize>
+        ensures place { IfSome result (λ place. place < length self.now.live.items) }
+        ensures done { is_forced ≡ false → IfSome result (λ place.
+            IfSome (slice_get self.now.live.items place) (λ term. IsDoneTerm (arc_value term))) }
+    {
+        for place in 0..self.live.len() {
+            if self.live[place].may_end(rt, is_forced) {
+                return Some(place);
+            }
+        }
+        None
+    }
+
+    /// Takes out the term of that place: its outcomes take its place. If an allocation fails, it stays.
+    fn take_out<R: Wait>(
+        &mut self,
+        rt: &R,
+        alloc: Global,
+        place: usize,
+    ) -> Result<Ending<J>, AllocError>
+        requires { place < length self.old.live.items }
+        ensures { IfOk result (λ ending. IfSome (slice_get self.old.live.items place) (λ term.
+            (ending.term ≡ seen_of (arc_value term)) × (ending.config ≡ (arc_value term).tenant))) }
+    {
+        let outcomes = self.live[place].outcomes(rt, alloc)?;
+        let span = self.live[place].span();
+        let kept = self.kept_of(alloc, span.number, outcomes.as_slice())?;
+        self.outcomes.make_room()?;
+        // From now on they are told without its journal.
+        let _is_there = self.live[place].catch_up(rt, alloc, false)?;
+        // No allocation from here on: else the term would be lost with what was taken out.
+        let term = self.live.remove(place);
+        self.terms.close(span.number);
+        let why = self.why(span.number);
+        // There is room for them.
+        let _kept = self.outcomes.add(span, kept);
+        Ok(Ending::new(term, why.unwrap_or(Why::Stop), outcomes))
+    }
+
+    /// Those of a term's outcomes that are kept: none if its jobs are retired.
+    fn kept_of(
+        &self,
+        alloc: Global,
+        number: u64,
+        outcomes: &[Outcome],
+    ) -> Result<Vec<Outcome>, AllocError> {
+        let mut kept = Vec::new(alloc);
+        if number >= self.retired {
+            kept.extend_from_slice(outcomes)?;
+        }
+        Ok(kept)
+    }
 }
 
 impl<J: Naming> Tenancy<J> {
@@ -25,7 +84,7 @@ impl<J: Naming> Tenancy<J> {
     pub fn leave<R: Wait>(&self, rt: &R, why: Why) {
         let mut lives = self.lives.lock(rt);
         lives.terms.leave(why);
-        lives.is_stopped |= why == Why::Stop;
+        lives.wishes.leave(why);
         if let Some(last) = lives.live.last() {
             last.leave();
         }
@@ -42,12 +101,12 @@ impl<J: Naming> Tenancy<J> {
         tenant: usize,
         desks: &[Desk<J>],
         is_forced: bool,
-    ) -> Result<Option<Ending<J>>, AllocError> {
+    ) -> Result<Option<Ending<J>>, AllocError>
+        ensures { IfOk result (λ found. IfSome found (λ ending.
+            is_forced ≡ false → IsDone ending.term ending.config)) }
+    {
         let mut lives = self.lives.lock(rt);
-        let Some(place) = lives.live.iter().position(|term| {
-            term.is_left() && (is_forced || term.is_quiet(rt))
-        })
-        else {
+        let Some(place) = lives.done(rt, is_forced) else {
             return Ok(None);
         };
         for desk in desks {
@@ -56,23 +115,9 @@ impl<J: Naming> Tenancy<J> {
         if !lives.live[place].is_free_of_sessions(rt) {
             return Ok(None);
         }
-        let outcomes = lives.live[place].outcomes(rt, alloc)?;
-        let span = lives.live[place].span();
-        let mut kept = Vec::new(alloc);
-        if span.number >= lives.retired {
-            kept.extend_from_slice(outcomes.as_slice())?;
-        }
-        lives.outcomes.make_room()?;
-        // From now on they are told without its journal.
-        let _is_there = lives.live[place].catch_up(rt, alloc, false)?;
-        // No allocation from here on: else the term would be lost with what was taken out.
-        let term = lives.live.remove(place);
-        lives.terms.close(span.number);
-        roster.lock(rt).remove(tenant, span.number);
-        let why = lives.why(span.number);
-        // There is room for them.
-        let _kept = lives.outcomes.add(span, kept);
-        Ok(Some(Ending::new(term, why.unwrap_or(Why::Stop), outcomes)))
+        let ending = lives.take_out(rt, alloc, place)?;
+        roster.lock(rt).remove(tenant, ending.number());
+        Ok(Some(ending))
     }
 
     /// The term of that number is closed.

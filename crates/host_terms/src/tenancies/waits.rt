@@ -5,7 +5,7 @@ use std::sync::{CondvarTimeouts, MutexGuard, Wait};
 use std::time::{Clock, Duration};
 use tenant_book::Naming;
 use tenant_lock::StopFlag;
-use term_life::Why;
+use term_life::{Awaited, Waiting, Why};
 
 /// How long a session waits for the next term at most before it looks again, in milliseconds.
 const LOOK: u64 = 100;
@@ -21,11 +21,6 @@ impl<J: Naming> Lives<J> {
             None => false,
         }
     }
-
-    /// Whether no term is opened now.
-    fn has_none_coming(&self) -> bool {
-        self.is_refused || self.is_stopped
-    }
 }
 
 impl<J: Naming> Tenancy<J> {
@@ -38,34 +33,38 @@ impl<J: Naming> Tenancy<J> {
         stop: &StopFlag,
     ) -> bool {
         let mut lives = self.lives.lock(rt);
-        lives.is_refused = false;
-        let mut held = 0u32;
-        for _look in rt.forever() {
-            if lives.has_other(number) {
-                return true;
-            }
-            if lives.has_none_coming() || stop.is_raised() || held >= LOOKS {
-                return false;
-            }
-            held = held.saturating_add(u32::from(lives.is_held));
-            lives = self.after_a_look(rt, lives);
-        }
-        false
+        lives.wishes.ask();
+        self.wait(rt, lives, number, stop, LOOKS)
     }
 
     /// Waits until a term serves that is not the one of that number, unless none can be opened now, older ones are to
     /// be closed before, or the flag is raised.
     pub fn wait_if_one_comes<R: Wait + Clock>(&self, rt: &R, number: u64, stop: &StopFlag) {
-        let mut lives = self.lives.lock(rt);
+        let lives = self.lives.lock(rt);
+        let _has_come = self.wait(rt, lives, Some(number), stop, 0);
+    }
+
+    /// Waits until a term serves that is not the one of that number, and says whether one does. It gives up after so
+    /// many looks at which an older one is still to be closed.
+    fn wait<'l, R: Wait + Clock>(
+        &'l self,
+        rt: &R,
+        lives: MutexGuard<'l, Lives<J>>,
+        number: Option<u64>,
+        stop: &StopFlag,
+        looks: u32,
+    ) -> bool {
+        let mut lives = lives;
+        let mut waiting = Waiting::new(looks);
         for _look in rt.forever() {
-            if lives.has_other(Some(number)) || lives.has_none_coming() || lives.is_held {
-                return;
+            let has_come = lives.has_other(number);
+            match waiting.look(lives.wishes, has_come, stop.is_raised()) {
+                Awaited::Came => return true,
+                Awaited::Not => return false,
+                Awaited::Later => lives = self.after_a_look(rt, lives),
             }
-            if stop.is_raised() {
-                return;
-            }
-            lives = self.after_a_look(rt, lives);
         }
+        false
     }
 
     /// Asks for the next term, and waits until something has changed, for a moment at most.
@@ -75,9 +74,7 @@ impl<J: Naming> Tenancy<J> {
         lives: MutexGuard<'l, Lives<J>>,
     ) -> MutexGuard<'l, Lives<J>> {
         let mut lives = lives;
-        if lives.wish.is_none() {
-            lives.wish = Some(Why::History);
-        }
+        lives.wishes.wish(Why::History);
         let (lives, _timeout) = self
             .changed
             .wait_timeout(rt, lives, Duration::from_millis(LOOK));

@@ -1,6 +1,6 @@
 // How far a term is, and its jobs are.
-ghost use Rattle.std.specs.Prelude.{◌≡◌, IfSome, Some, true};
-ghost use Rattle.host_terms.specs.Looks.{HadNothingToDo, IsDone, IsLooked, WasFull};
+ghost use Rattle.std.specs.Prelude.{◌≡◌, All, IfOk, IfSome, Some, false, true};
+ghost use Rattle.host_terms.specs.Looks.{HadNothingToDo, IsDone, IsDoneTerm, IsLooked, WasFull, WasOutcome};
 ghost use Rattle.host_terms.specs.Bookings.{seen_of};
 
 use super::HostTerm;
@@ -23,6 +23,13 @@ impl<J: Naming> HostTerm<J> {
             Some(door) => self.has_nothing_to_do(rt, door) || self.is_full(rt, door),
             None => true,
         }
+    }
+
+    /// Whether it was left and nothing is left that can be done, or, if it is forced, whether it was left.
+    pub(crate) fn may_end<R: Wait>(&self, rt: &R, is_forced: bool) -> bool
+        ensures { result ≡ true → is_forced ≡ false → IsDoneTerm self.now }
+    {
+        self.is_left() && (is_forced || self.is_quiet(rt))
     }
 
     fn has_nothing_to_do<R: Wait>(&self, rt: &R, door: &TenantDoor<J>) -> bool
@@ -82,7 +89,9 @@ impl<J: Naming> HostTerm<J> {
         &self,
         rt: &R,
         alloc: Global,
-    ) -> Result<Vec<Outcome>, AllocError> {
+    ) -> Result<Vec<Outcome>, AllocError>
+        ensures { IfOk result (λ outcomes. All (WasOutcome (seen_of self.now)) outcomes.items) }
+    {
         let mut outcomes = Vec::new(alloc);
         let Some(door) = self.door() else {
             return Ok(outcomes);
@@ -92,14 +101,23 @@ impl<J: Naming> HostTerm<J> {
             let Some(job) = door.next_job(rt, &mut door.front(), last) else {
                 return Ok(outcomes);
             };
-            if let Some(status) = door.status(rt, &mut door.front(), job) {
-                outcomes.push(Outcome {
-                    job: self.span.outside(job),
-                    status,
-                })?;
+            if let Some(outcome) = self.outcome(rt, door, job) {
+                outcomes.push(outcome)?;
             }
             last = job;
         }
         Ok(outcomes)
+    }
+
+    /// How far a job is, by its number here. None if it is retired or released, or was not made.
+    fn outcome<R: Wait>(&self, rt: &R, door: &TenantDoor<J>, job: u64) -> Option<Outcome>
+        requires { (seen_of self.now).life ≡ Some door.now.life }
+        ensures { IfSome result (WasOutcome (seen_of self.now)) }
+    {
+        let status = door.status(rt, &mut door.front(), job)?;
+        Some(Outcome {
+            job: self.span.outside(job),
+            status,
+        })
     }
 }
