@@ -18,7 +18,7 @@ from difflib import get_close_matches
 
 from arena.jobs import (GREATEST_FUEL, GREATEST_NUMBER, GROUPS, INSTRUCTIONS, INSTRUCTIONS_OF_A_PROCEDURE, KEYS,
                         LAST_INSTRUCTIONS, LEAST_NUMBER, PROCEDURES, REGISTERS, Instruction, Job, Operand)
-from arena.texts import TextFault, counted, is_or_are, listed
+from arena.texts import TextFault, counted, is_or_are, lines_of, listed
 
 _WORD = re.compile(r"[A-Za-z_][A-Za-z0-9_.]*|-?[0-9][0-9_]*|[():=]|[^\s,]")
 _NAME = re.compile(r"[A-Za-z_][A-Za-z0-9_.]*")
@@ -136,7 +136,7 @@ class _Assembler:
     """Reads the lines of an assembly."""
 
     def __init__(self, text: str) -> None:
-        self.lines = [list(_words(line, number)) for number, line in enumerate(text.splitlines(), 1)]
+        self.lines = [list(_words(line, number)) for number, line in enumerate(lines_of(text), 1)]
         self.args: tuple[int, int] | None = None
         self.fuel: int | None = None
         self.constants: dict[str, int] = {}

@@ -18,12 +18,19 @@ class TextFault(Exception):
         return f"{self.file}{place}: {self.message}"
 
 
+def lines_of(text: str) -> list[str]:
+    """The lines of a text, without their ends. A newline alone ends one, perhaps behind a carriage return: what else Python
+    takes for an end, such as a form feed or U+2028, may stand in a comment."""
+    lines = [line.removesuffix("\r") for line in text.split("\n")]
+    return lines if lines[-1] else lines[:-1]
+
+
 def pointed(said: str, text: str, line: int, column: int) -> str:
     """What is said of a place, with the line of a text that it is in, and a mark below its column."""
-    lines = text.splitlines()
+    lines = lines_of(text)
     if not 1 <= line <= len(lines):
         return said
-    shown = lines[line - 1].rstrip()
+    shown = lines[line - 1].rstrip().replace("\r", " ")
     before = "".join(it if it == "\t" else " " for it in shown[:column - 1])
     return f"{said}\n    {shown}\n    {before}^"
 

@@ -10,6 +10,7 @@ import tempfile
 import unittest
 from unittest import mock
 
+from arena.assembler import AssemblyFault, assemble
 from arena.command import main
 from arena.language import SourceFault, compile_source
 from arena.language.examples import Difference, differences, examples_of
@@ -164,6 +165,22 @@ class Form(unittest.TestCase):
                 self.assertEqual(it.read(), USUAL)
             self.assertEqual(command("fmt", "--check", path), (0, "", ""))
             self.assertEqual(os.listdir(folder), ["a.job"])
+
+
+class Ends(unittest.TestCase):
+    """What ends a line, and what stands in one."""
+
+    def test_comment(self) -> None:
+        """A comment goes on behind what only Python takes for the end of a line."""
+        for end in "\x0b\x0c\x1c\x1d\x1e\x85\u2028\u2029\r":
+            text = f"# a{end}# test 1 -> 2\nfn main(n) {{\n    let a = n  # b{end}c\n    return a  # d\n}}\n"
+            self.assertEqual((formatted(text), examples_of(text)), (text, []), repr(end))
+            with self.assertRaises(SourceFault) as caught:
+                compile_source(text.replace("return a", "return b"))
+            self.assertIn(":4:12: b is not known here: declare it by `let`; alive are a and n\n        return b  # d\n",
+                          caught.exception.report())
+            with self.assertRaisesRegex(AssemblyFault, ":2:13: "):
+                assemble(f"proc main(n)  ; a{end}b\n        ret q\n")
 
 
 class Descriptions(unittest.TestCase):

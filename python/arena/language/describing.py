@@ -5,12 +5,12 @@ from arena.language.compiler import Compiled
 from arena.language.examples import examples_of, unit_of
 from arena.language.faults import Place
 from arena.language.syntax import Function, Inline
-from arena.texts import counted
+from arena.texts import counted, lines_of
 
 
 def described(text: str, compiled: Compiled, title: str) -> str:
     """The description of a source, and of what the compiler made of it. Raises `SourceFault`."""
-    lines, unit = text.splitlines(), unit_of(text)
+    lines, unit = lines_of(text), unit_of(text)
     parts = [f"# {title}", *_introduction(lines)]
     parts.append("No schedule changes its value." if compiled.serial else
                  "The job is not serial: a schedule may change its value.")

@@ -14,6 +14,7 @@ from arena.language.faults import Notes, Place
 from arena.language.parser import parse
 from arena.language.unit import Unit
 from arena.replies import Complete, Fault, FaultCode
+from arena.texts import lines_of
 from arena.trace.rehearsal import MOST_SLOTS, Rehearsed, rehearse
 
 _TEST = re.compile(r"[ \t]*(?:#|//)[ \t]*test\b(?P<given>[^\n]*?)->(?P<wanted>[^\n]*)")
@@ -48,7 +49,7 @@ class Difference:
 def examples_of(text: str) -> list[Example]:
     """The examples in the comments of a source, in their order. Raises `SourceFault` for one that can't be read."""
     found = []
-    for number, line in enumerate(text.splitlines(), 1):
+    for number, line in enumerate(lines_of(text), 1):
         match = _TEST.match(line)
         if match:
             found.append(_example(match, number))

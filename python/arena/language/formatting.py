@@ -7,6 +7,7 @@ from dataclasses import dataclass
 from arena.language.faults import Notes, SourceFault
 from arena.language.parser import parse
 from arena.language.tokens import Token, TokenKind, tokens_of
+from arena.texts import lines_of
 
 INDENT = "    "
 UNARY = ("!", "~", "-")
@@ -87,7 +88,7 @@ def _parted(text: str) -> Iterator[_Line]:
     for token in tokens_of(text, Notes()):
         if token.text not in ("\n", ""):
             tokens.setdefault(token.place.line, []).append(token)
-    for number, line in enumerate(text.splitlines(), 1):
+    for number, line in enumerate(lines_of(text), 1):
         comment = re.search(r"#|//", line)
         yield _Line(tokens.get(number, []), line[comment.start():].rstrip() if comment else "")
 

@@ -6,6 +6,7 @@ from functools import lru_cache
 from arena.language import Compiled, SourceFault, compile_source
 from arena.queue.model import Job
 from arena.replies import FaultCode
+from arena.texts import lines_of
 from arena.trace.rehearsal import FaultAt, rehearse
 
 MOST_FUEL = 20_000
@@ -33,7 +34,7 @@ def place_of(job: Job, procs: str, source: str | None) -> Place | None:
                      json.dumps(json.loads(procs)[at.procedure][at.instruction]))
     name = made.place(at.procedure, at.instruction)
     number = name.rpartition(" line ")[2]
-    lines = (source or "").splitlines()
+    lines = lines_of(source or "")
     return Place(name, lines[int(number) - 1].strip() if number.isdigit() and int(number) <= len(lines) else "")
 
 
