@@ -12,6 +12,7 @@ from unittest import mock
 
 from arena.assembler import AssemblyFault, assemble
 from arena.command import main
+from arena.command.sources import read_text
 from arena.language import SourceFault, compile_source
 from arena.language.examples import Difference, differences, examples_of
 from arena.language.formatting import formatted
@@ -181,6 +182,19 @@ class Ends(unittest.TestCase):
                           caught.exception.report())
             with self.assertRaisesRegex(AssemblyFault, ":2:13: "):
                 assemble(f"proc main(n)  ; a{end}b\n        ret q\n")
+
+    def test_file(self) -> None:
+        """A carriage return ends no line by itself, as for arena-compile, also in a file and in standard input."""
+        source = b"fn main(n) {\r\n    let a = 1  # b\r a = 2\r\n    return a\r\n}\r\n"
+        with tempfile.TemporaryDirectory() as folder:
+            path = os.path.join(folder, "a.job")
+            with open(path, "wb") as it:
+                it.write(source)
+            _, out, _ = command("build", "--python", path)
+            self.assertEqual(json.loads(out)["procs"], [[["set", 2, 1], ["ret", 2]]])
+            self.assertEqual(command("fmt", "--check", path), (0, "", ""))
+            with mock.patch.object(sys, "stdin", io.TextIOWrapper(io.BytesIO(source), encoding="utf-8")):
+                self.assertEqual(read_text("-"), source.decode().replace("\r\n", "\n"))
 
 
 class Descriptions(unittest.TestCase):

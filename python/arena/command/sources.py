@@ -1,5 +1,7 @@
 """Jobs from files: compiled, assembled, or read as JSON."""
 import argparse
+import contextlib
+import io
 import json
 import sys
 from collections.abc import Mapping
@@ -17,14 +19,22 @@ class SourceWrong(Exception):
 
 
 def read_text(path: str) -> str:
-    """The text of a file, or of standard input if the path is -. Raises OSError; SourceWrong if it is no UTF-8."""
+    """The text of a file, or of standard input if the path is -. A carriage return before a newline is left out; another one
+    stays, since it ends no line. Raises OSError; SourceWrong if it is no UTF-8."""
     try:
-        if path == "-":
-            return sys.stdin.read()
-        with open(path, encoding="utf-8") as it:
-            return it.read()
+        return _read(path).replace("\r\n", "\n")
     except UnicodeDecodeError as fault:
         raise SourceWrong(f"{path}: byte {fault.start} is no UTF-8") from None
+
+
+def _read(path: str) -> str:
+    if path == "-":
+        if isinstance(sys.stdin, io.TextIOWrapper):
+            with contextlib.suppress(io.UnsupportedOperation):  # a part of it was read already
+                sys.stdin.reconfigure(newline="")
+        return sys.stdin.read()
+    with open(path, encoding="utf-8", newline="") as it:
+        return it.read()
 
 
 def compiled(path: str, words: argparse.Namespace) -> "Compiled":
