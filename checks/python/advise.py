@@ -121,6 +121,12 @@ def words_and_files(it):
         rf'"tenant":"acme",.*\],"file":"{re.escape(two)}"\}}\n'))
     it.call("advise", it.file("invalid.json", {"tenants": [], "workers": 1}), status=5, err="a list of 1 to 64 tenants")
     it.call("advise", it.file("broken.json", "{"), status=5, err="broken.json:1:2: no JSON")
+    with open(path) as config:
+        text = config.read()
+    for command, words in (("lint", ()), ("advise", ("--memory", "16"))):
+        it.call(command, it.file("longest.json", text.ljust(1_048_576)), *words, out=re.compile(".*longest.json: .*\n"))
+        it.call(command, it.file("too_long.json", text.ljust(1_048_577)), *words, status=5,
+                err="too_long.json: a configuration has at most 1,048,576 bytes, and this file has 1,048,577\n$")
     it.call("advise", "/nowhere", status=8, err="^arena: /nowhere: No such file or directory\n$")
     for words in (("--rotate-at", "0"), ("--rotate-at", "101"), ("--connections", "65"), ("--connections", "x"),
                   ("--memory", "0"), ("--memory", "nan"), ("--memory", "inf"), ()):

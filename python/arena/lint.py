@@ -23,6 +23,9 @@ TENANTS, WORKERS = 64, 32
 NAME = re.compile(r"[a-z0-9-]{1,32}")
 PRIORITIES, ISOLATIONS = ("low", "normal", "high"), ("exact", "within")
 GREATEST_SLOTS, GREATEST_ROWS, GREATEST_STEPS = 16, 4_096, 1_048_576
+GREATEST_CONFIG = 1_048_576
+"""How many bytes the file of a configuration may have."""
+
 TENANT_MEMBERS = ("name", "priority", "reserved", "rows", "slots", "steps")
 OPTIONAL_TENANT_MEMBER = "isolation"
 

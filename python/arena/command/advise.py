@@ -6,9 +6,8 @@ from collections.abc import Callable
 from arena.advise import Machine, advice_of, memory_of_machine
 from arena.command.call import Call
 from arena.command.output import GREEN, YELLOW
-from arena.command.sources import SourceWrong, read_json
+from arena.command.sources import SourceWrong, fault_of_config, read_json
 from arena.command.words import Command, Completes, Status, option, positional
-from arena.lint import first_fault_of_config
 
 GIB = 2**30
 MOST_CONNECTIONS = 64
@@ -43,7 +42,7 @@ def advise(call: Call) -> int:
     """Says what is unwise."""
     words, path = call.words, call.words.CONFIG
     config = read_json(path)
-    fault = first_fault_of_config(config)
+    fault = fault_of_config(path, config)
     if fault is not None:
         raise SourceWrong(f"{path}: {fault}")
     memory = words.memory or memory_of_machine()

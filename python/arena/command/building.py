@@ -4,7 +4,8 @@ import json
 from arena.command.call import Call
 from arena.command.output import GREEN
 from arena.command.proving import Proved, proved
-from arena.command.sources import JobSource, SourceWrong, assembled, compiled, job_of, read_json, read_text, source_of
+from arena.command.sources import (JobSource, SourceWrong, assembled, compiled, fault_of_config, job_of, read_json, read_text,
+                                   source_of)
 from arena.command.words import JOB_WORDS, Command, Completes, Status, option
 
 TO = option("-o", "--output", help="write to this file, not to standard output", metavar="FILE",
@@ -80,10 +81,10 @@ def lint(call: Call) -> int:
         warnings = warnings_of(source_of(call.words))
         fault = None
     else:
-        from arena.lint import first_fault_of_config, first_fault_of_job
+        from arena.lint import first_fault_of_job
         value = read_json(path)
         is_config = isinstance(value, dict) and ("tenants" in value or "workers" in value)
-        fault = (first_fault_of_config if is_config else first_fault_of_job)(value)
+        fault = fault_of_config(path, value) if is_config else first_fault_of_job(value)
         if fault is None and not is_config:
             warnings = warnings_of(JobSource(value))
     if fault is not None:

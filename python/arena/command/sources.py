@@ -3,6 +3,7 @@ import argparse
 import contextlib
 import io
 import json
+import os
 import sys
 from collections.abc import Mapping
 from dataclasses import dataclass
@@ -12,6 +13,7 @@ from arena.texts import pointed
 
 if TYPE_CHECKING:
     from arena.language import Compiled
+    from arena.lint import Place
 
 
 class SourceWrong(Exception):
@@ -74,6 +76,16 @@ def read_json(path: str) -> Any:
         raise SourceWrong(f"{path}: {fault}") from None
     except RecursionError:
         raise SourceWrong(f"{path}: nested too deep for the JSON that a server reads") from None
+
+
+def fault_of_config(path: str, value: object) -> "Place | None":
+    """The first fault of the configuration that was read from a file: of its value, else that the file is too long for the
+    servers."""
+    from arena.lint import GREATEST_CONFIG, Place, first_fault_of_config
+    fault = first_fault_of_config(value)
+    if fault is None and path != "-" and (size := os.path.getsize(path)) > GREATEST_CONFIG:
+        return Place("", f"a configuration has at most {GREATEST_CONFIG:,} bytes, and this file has {size:,}")
+    return fault
 
 
 @dataclass(frozen=True)
