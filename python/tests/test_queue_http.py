@@ -213,6 +213,9 @@ class Requests(WithService):
             with socket.create_connection(("127.0.0.1", self.port), timeout=SOON) as link:
                 link.sendall(f"{head}\r\nHost: here\r\nConnection: close\r\nAuthorization: Bearer {self.acme}\r\n\r\n".encode() + body)
                 return b"".join(iter(lambda: link.recv(4096), b"")).split(b"\r\n")
+        for coding in ("gzip", "deflate"):
+            answer = said(f"POST /v1/jobs HTTP/1.1\r\nContent-Encoding: {coding}\r\nContent-Length: 2", b"{}")
+            self.assertIn(b" 400 ", answer[0], "the body is not what its headers say")
         self.assertIn(b"Allow: GET,HEAD,POST", said("PUT /v1/jobs HTTP/1.1"))
         self.assertIn(b"Allow: POST", said("GET /v1/jobs/1/retry HTTP/1.1"))
         self.assertEqual((said("HEAD /healthz HTTP/1.1")[0], said("HEAD /healthz HTTP/1.1")[-1]), (b"HTTP/1.1 200 OK", b""))

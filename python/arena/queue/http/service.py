@@ -104,15 +104,18 @@ class Service:
         return None
 
     async def _body(self, request: web.BaseRequest) -> bytes:
-        """The body of a request. Raises HTTPRequestEntityTooLarge for one that is longer than its token may send."""
+        """The body of a request. Raises HTTPRequestEntityTooLarge for one that is longer than its token may send, and BadBody for
+        one that is not what its headers say."""
         grant: Grant = request["grant"]
         most = self.size if grant.bytes is None else grant.bytes
         body, length = bytearray(), request.content_length or 0
-        if length <= most:
-            while some := await request.content.readany():
+        try:
+            while length <= most and (some := await request.content.readany()):
                 body += some
                 if len(body) > most:
                     break
+        except web.RequestPayloadError:
+            raise BadBody("the body is not what the request's headers say") from None
         if max(length, len(body)) > most:
             raise web.HTTPRequestEntityTooLarge(most, max(length, len(body)))
         return bytes(body)
