@@ -125,6 +125,8 @@ def hosts_are_run(it):
                 signal.signal(signal.Signals[f"SIG{name}"], before)
         killed = program("killed", "kill -9 $$")
         it.call("host", "--program", killed, folder.path, status=137, how=arena_process)
+        limited = program("limited", "kill -XFSZ $$", "exit 5")  # what comes with a write beyond `ulimit -f`
+        it.call("host", "--program", limited, folder.path, status=5, how=arena_process)
         it.call("host", "--program", "/nowhere/host", folder.path, status=10, err="^arena: /nowhere/host: No such file or directory\n$")
         it.call("host", "--program", folder.path, folder.path, status=10, err=": Permission denied\n$")
         with FakeHost() as host:

@@ -24,8 +24,9 @@ def run_host(program: str, words: Sequence[str], folder: RunFolder) -> int:
     if folder.is_held():
         raise Taken(f"{folder.path}: an arena-host runs here already")
     with _signals() as asked:
-        # A group of its own: Ctrl-C reaches all processes of a terminal's group, and the host would end at once.
-        host = subprocess.Popen([program, *words, "--run", folder.path], process_group=0)
+        # A group of its own: Ctrl-C reaches all processes of a terminal's group, and the host would end at once. Python ignores
+        # SIGXFSZ, and so does the host then: a write beyond a limit of file sizes fails, as on a full disk, and ends nothing.
+        host = subprocess.Popen([program, *words, "--run", folder.path], process_group=0, restore_signals=False)
         with _end_of(host) as ended:
             select.select([ended, asked], [], [])
             # A host that begins makes its socket after it has taken the folder, so one removal may come too early.
