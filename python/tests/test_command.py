@@ -4,6 +4,7 @@ import io
 import os
 import subprocess
 import sys
+import tempfile
 import tomllib
 import unittest
 
@@ -20,6 +21,24 @@ def loaded_by(*words: str) -> set[str]:
     code = f"import sys, arena.command; arena.command.main({words!r}); print(*(it for it in sys.modules), file=sys.stderr)"
     done = subprocess.run([sys.executable, "-c", code], capture_output=True, text=True, cwd=TOP, check=True)
     return set(done.stderr.split())
+
+
+class Words(unittest.TestCase):
+    """Words that a job's file has no use for."""
+
+    def test_refused(self) -> None:
+        """No fuel, and a parameter of what has none, of each kind of file."""
+        with tempfile.TemporaryDirectory() as folder:
+            for name, text in (("a.json", '{"args":[7,0],"fuel":5,"procs":[[["ret",0]]]}'), ("a.jasm", "proc main(n)\n    ret n\n"),
+                               ("a.job", "fn main(n) { return n }\n")):
+                path = os.path.join(folder, name)
+                with open(path, "w", encoding="utf-8") as it:
+                    it.write(text)
+                for words in (("--fuel", "0"), ("-D", "N=1")):
+                    said = io.StringIO()
+                    with contextlib.redirect_stderr(said):
+                        self.assertEqual(main(("dis", path, *words)), 5, (name, words))
+                    self.assertRegex(said.getvalue(), "fuel|-D gives a parameter|no param N")
 
 
 class Loading(unittest.TestCase):

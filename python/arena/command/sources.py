@@ -59,6 +59,7 @@ def assembled(path: str, words: argparse.Namespace) -> Mapping[str, Any]:
     """What the assembler makes of a .jasm file. Raises SourceWrong."""
     from arena.assembler import AssemblyFault, assemble
     args = _args(words)
+    _refuse_parameters(path, words, "an assembly")
     try:
         return assemble(read_text(path), args=(args[0], args[1]) if args else None, fuel=words.fuel, file=path).to_value()
     except (AssemblyFault, ValueError) as fault:
@@ -119,16 +120,20 @@ def job_of(words: argparse.Namespace) -> Mapping[str, Any]:
     if path.endswith(".jasm"):
         return assembled(path, words)
     value = read_json(path)
-    if words.define:
-        raise SourceWrong(f"{path}: -D gives a parameter of a .job file, and this is read as JSON")
+    _refuse_parameters(path, words, "read as JSON")
     if isinstance(value, dict):
         value = {**value, **({"args": _args(words)} if words.args else {}),
-                 **({"fuel": words.fuel} if words.fuel else {})}
+                 **({"fuel": words.fuel} if words.fuel is not None else {})}
     fault = _first_fault(value)
     if fault is not None:
         raise SourceWrong(f"{path}: {fault}")
     assert isinstance(value, dict)
     return value
+
+
+def _refuse_parameters(path: str, words: argparse.Namespace, what: str) -> None:
+    if words.define:
+        raise SourceWrong(f"{path}: -D gives a parameter of a .job file, and this is {what}")
 
 
 def _first_fault(value: object) -> str | None:
