@@ -6,7 +6,7 @@ from arena.command.output import GREEN
 from arena.command.proving import Proved, proved
 from arena.command.sources import (JobSource, SourceWrong, assembled, compiled, fault_of_config, job_of, read_json, read_text,
                                    source_of)
-from arena.command.words import JOB_WORDS, Command, Completes, Status, option
+from arena.command.words import JOB_WORDS, Command, Completes, Status, option, positional
 
 TO = option("-o", "--output", help="write to this file, not to standard output", metavar="FILE",
             completes=Completes.FILE)
@@ -113,13 +113,15 @@ COMMANDS = (
             "takes the source, without --fuel and --python; standard error then says which compiler made it, and -S "
             "then lists its instructions with the names of its procedures, and no lines.",
             "arena build queens.job -D N=8 -o queens.json", build,
-            (*JOB_WORDS, option("-S", help="the listing: labels, registers by name, source lines", action="store_true"),
+            (positional("FILE", "a .job file", Completes.JOB_FILE), *JOB_WORDS[1:],
+             option("-S", help="the listing: labels, registers by name, source lines", action="store_true"),
              option("--map", help="the source line of each instruction, as JSON", action="store_true"),
              option("--serial", help="say whether the job is serial", action="store_true"),
              option("--python", help="compile in Python, even where arena-compile is there", action="store_true"), TO)),
     Command("asm", "assemble a .jasm file to a JOB",
             "Assembles a .jasm file to the JOB that the server reads, in JSON.",
-            "arena asm sum.jasm --args 100", asm, (*JOB_WORDS, TO)),
+            "arena asm sum.jasm --args 100", asm,
+            (positional("FILE", "a .jasm file; - is standard input", Completes.JOB_FILE), *JOB_WORDS[1:], TO)),
     Command("dis", "write a job in assembly",
             "Writes any valid JOB, or compiled .job file, in assembly, which assembles back to the same JOB.",
             "arena dis fib.json", dis, (*JOB_WORDS, TO)),
