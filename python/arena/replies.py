@@ -150,7 +150,7 @@ class Refused(ArenaError):
 
     code: ClassVar[int]
     name: ClassVar[str]
-    advice: ClassVar[str]
+    advice: str
     passes: ClassVar[bool] = False
     done: bool | None = False
 
@@ -227,8 +227,13 @@ class HistoryFull(Refused):
     code, name, passes = 8, "history_full", True
     advice = ("the tenant's history has all its `steps` entries; arena-host could open no new one, so ask again later; "
               "start arena-server anew, with more `steps` if there are fewer than 1,048,576")
+    advice_of_job = ("the history that the job is in has all its `steps` entries, or ended before the job did; if arena-host answers "
+                     "this again, the job is lost, so run it again; start arena-server anew, with more `steps` if there are fewer "
+                     "than 1,048,576")
 
     def __init__(self, request: str = "the request") -> None:
+        if request.startswith(("poll ", "collect ")):
+            self.advice = self.advice_of_job
         super().__init__(request)
         self.done = None if request == "execute" else False
 

@@ -50,6 +50,15 @@ class Errors(unittest.TestCase):
         self.assertEqual({code for code, kind in REFUSALS.items() if kind("execute").done is None}, {8})
         self.assertEqual({code for code, kind in REFUSALS.items() if kind.passes}, {7, 8, 9, 10, 12, 13})
 
+    def test_a_full_history_of_a_job(self) -> None:
+        """Who asks for an outcome is told that the job may be lost, and who asks for another thing is not."""
+        line = b'{"code":8,"error":"history_full"}'
+        for request, is_of_job in ((requests.collect(1), True), (requests.poll(1), True), (requests.submit(JOB), False)):
+            with self.assertRaises(arena.HistoryFull) as caught:
+                request.value(line)
+            self.assertEqual("so run it again" in str(caught.exception), is_of_job, request)
+            self.assertIn(caught.exception.advice, str(caught.exception))
+
     def test_lost_connections_are_not_known(self) -> None:
         mine, other = socket.socketpair()
         client = arena.Client.over(mine)
