@@ -121,6 +121,8 @@ class Commands(unittest.TestCase):
     def test_wrong_words(self) -> None:
         self.assertEqual(command("queue", "stats")[0], 2, "no queue is named")
         self.assertEqual(command("queue", "stats", "-q", os.path.join(self.folder, "none"))[0], 12)
+        self.assertEqual(command("queue", "stats", "-q", self.folder),
+                         (12, "", f"arena: {self.folder}: unable to open database file\n"))
         self.assertEqual(command("queue", "submit", self.job, "-q", self.path)[0], 2, "no tenant is named")
         with self.assertRaises(SystemExit):
             command("queue", "nothing")

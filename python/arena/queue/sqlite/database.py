@@ -47,7 +47,10 @@ class Sqlite(Base):
         self.synchronous = synchronous
         self._mode, self._topics = "", set[str]()
         with contextlib.ExitStack() as opened:
-            self._base = sqlite3.connect(path, timeout=BUSY_SECONDS, isolation_level=None, cached_statements=256)
+            try:
+                self._base = sqlite3.connect(path, timeout=BUSY_SECONDS, isolation_level=None, cached_statements=256)
+            except sqlite3.OperationalError as fault:
+                raise sqlite3.OperationalError(f"{path}: {fault}") from None
             opened.callback(self._base.close)
             self._sender = opened.enter_context(contextlib.closing(Sender(f"{path}-wake")))
             self._turns = os.open(f"{path}-turns", os.O_CREAT | os.O_RDWR | os.O_CLOEXEC, 0o666)
