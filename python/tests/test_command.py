@@ -10,7 +10,7 @@ import unittest
 
 import arena
 from arena.command import MODULES, all_commands, commands_of, main, named_command
-from arena.command.words import integer
+from arena.command.words import assignment, integer
 
 TOP = os.path.join(os.path.dirname(os.path.abspath(__file__)), "..")
 FIB = os.path.join(TOP, "..", "examples", "jobs", "fib.job")
@@ -66,10 +66,11 @@ class Loading(unittest.TestCase):
             self.assertEqual(named_command(words), wanted)
 
     def test_integer(self) -> None:
-        """Numbers of --args are those of a source."""
+        """Numbers of --args, and those of -D, are those of a source."""
         for text, wanted in (("1_000", 1000), ("0x1f", 31), ("-0x10", -16), ("0xffffffffffffffff", -1), ("-5", -5),
                              ("9223372036854775808", -(2**63)), ("18446744073709551616", 2**64)):
             self.assertEqual(integer(text), wanted)
+            self.assertEqual(assignment(f"N={text}"), ("N", wanted))
 
     def test_package(self) -> None:
         """What the package offers is there, and nothing else."""

@@ -130,7 +130,7 @@ def assignment(text: str) -> Assignment:
     name, equals, value = text.partition("=")
     if not equals or not name.isidentifier():
         raise argparse.ArgumentTypeError(f"{text}: write NAME=NUMBER")
-    return Assignment(name, int(value, 0))
+    return Assignment(name, integer(value))
 
 
 def integer(text: str) -> int:
