@@ -41,6 +41,19 @@ class Words(unittest.TestCase):
                     self.assertRegex(said.getvalue(), "fuel|-D gives a parameter|no param N")
 
 
+    def test_out_of_range(self) -> None:
+        """Numbers with which nothing would be done, or nothing would end."""
+        for words in (("test", FIB, "--schedules", "0"), ("bench", "-c", "0"), ("bench", "-c", "65"), ("bench", "-n", "-1"),
+                      ("queue", "run", "D", "--lease", "0"), ("queue", "run", "D", "--connections", "0"),
+                      ("queue", "run", "D", "--window", "0"), ("queue", "list", "--limit", "-1")):
+            said = io.StringIO()
+            with contextlib.redirect_stderr(said), contextlib.redirect_stdout(said):
+                with self.assertRaises(SystemExit, msg=words) as ended:
+                    main((*words, "-s", "/nowhere", "-t", "acme", *(("-q", "/nowhere") if words[0] == "queue" else ())))
+            self.assertEqual(ended.exception.code, 2)
+            self.assertRegex(said.getvalue(), f": {words[-1]}: a number ")
+
+
 class Loading(unittest.TestCase):
     """A call loads what it needs."""
 

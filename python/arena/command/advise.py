@@ -1,27 +1,15 @@
 """`arena advise`: what is unwise in a configuration that is valid."""
 import argparse
 import resource
-from collections.abc import Callable
 
 from arena.advise import Machine, advice_of, memory_of_machine
 from arena.command.call import Call
 from arena.command.output import GREEN, YELLOW
 from arena.command.sources import SourceWrong, fault_of_config, read_json
-from arena.command.words import Command, Completes, Status, option, positional
+from arena.command.words import Command, Completes, Status, from_to, option, positional
 
 GIB = 2**30
 MOST_CONNECTIONS = 64
-
-
-def from_to(least: int, most: int) -> Callable[[str], int]:
-    """The type of a word that is a number in a range."""
-    def number(text: str) -> int:
-        """The number."""
-        found = int(text)
-        if not least <= found <= most:
-            raise argparse.ArgumentTypeError(f"{text}: a number from {least} to {most}")
-        return found
-    return number
 
 
 def gib(text: str) -> int:

@@ -6,7 +6,7 @@ import sys
 from arena.command.call import Call
 from arena.command.output import GREEN, RED
 from arena.command.sources import SourceWrong, read_text
-from arena.command.words import Command, Completes, Status, option, positional
+from arena.command.words import Command, Completes, Status, from_to, option, positional
 from arena.texts import counted
 
 FILES = positional("FILE", "a .job file; - is standard input", Completes.JOB_FILE, nargs="+")
@@ -98,7 +98,7 @@ COMMANDS = (
             "fault, and `# test 5 -> 5, seen.sum = 10` also wants the sum of a cell. The status is 1 if an example gave something else, or there "
             "is none.",
             "arena test examples/jobs/fib.job", test,
-            (FILES, option("--schedules", help="how many schedules for each example; 8 without it", type=int, default=8,
+            (FILES, option("--schedules", help="how many schedules for each example; 8 without it", type=from_to(1), default=8,
                            metavar="N"),
              option("--seed", help="what the schedules are drawn from; 1 without it", type=int, default=1, metavar="N"))),
     Command("fmt", "write .job files in the usual form",

@@ -11,12 +11,14 @@ from arena.command.builds import build_of
 from arena.command.call import Call
 from arena.command.output import Progress
 from arena.command.sources import job_of
-from arena.command.words import JOB_WORDS, Command, Completes, Status, option, positional
+from arena.command.words import JOB_WORDS, Command, Completes, Status, from_to, option, positional
 from arena.replies import ArenaError
 from arena.trace.report import table
 
 SMALLEST = {"args": [7, 0], "fuel": 10, "procs": [[["ret", 0]]]}
 PERCENTS = (50, 90, 99, 100)
+MOST_CLIENTS = 64
+"""As many as a server serves at a time; one more would wait for ever."""
 
 
 @dataclass
@@ -150,9 +152,9 @@ COMMANDS = (
             "after each round of 256; without it 256 jobs are the "
             "most.", "arena bench examples/jobs/fib.job --args 15 --clients 8 --jobs 1000 --retire", bench,
             (positional("FILE", "a job, as for `run`", Completes.JOB_FILE, nargs="?"), *JOB_WORDS[1:],
-             option("-c", "--clients", help="how many connections ask at once", type=int, default=4, metavar="N"),
-             option("-n", "--jobs", help="how many jobs in all", type=int, default=200, metavar="N"),
-             option("--requests", help="how many requests in all", type=int, default=1000, metavar="N"),
+             option("-c", "--clients", help="how many connections ask at once", type=from_to(1, MOST_CLIENTS), default=4, metavar="N"),
+             option("-n", "--jobs", help="how many jobs in all", type=from_to(0), default=200, metavar="N"),
+             option("--requests", help="how many requests in all", type=from_to(0), default=1000, metavar="N"),
              option("--execute", help="execute each job, rather than submit and collect it", action="store_true"),
              option("--retire", help="forget the tenant's jobs as is needed", action="store_true"))),
 )

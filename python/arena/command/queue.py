@@ -1,9 +1,21 @@
 """`arena queue`: its commands and their words."""
+import argparse
+
 from arena.command import queue_looks, queueing
-from arena.command.words import JOB_WORDS, Command, Completes, option, positional, seconds
+from arena.command.words import JOB_WORDS, Command, Completes, from_to, option, positional, seconds
 
 STATES = ("scheduled", "ready", "running", "complete", "fault", "canceled", "dead")
 ENDED = STATES[3:]
+
+
+
+def lease(text: str) -> float:
+    """The seconds of a lease, as a word. A dispatcher renews it three times in them."""
+    found = seconds(text)
+    if found < 1:
+        raise argparse.ArgumentTypeError(f"{text}: a number of seconds, 1 or more")
+    return found
+
 
 QUEUE = option("-q", "--queue", help="the queue's file, or its URL in PostgreSQL; else ARENA_QUEUE", metavar="FILE",
                completes=Completes.FILE)
@@ -42,12 +54,12 @@ INNER = (
             "number of dispatchers may run; each host has one of them at a time.", "arena queue run /var/lib/arena", queueing.run,
             (positional("D", "a host's run folder, or its socket", Completes.FOLDER, nargs="+"), QUEUE,
              option("--lease", help="for how long its jobs are left to it if it is silent; 10, unless this says otherwise",
-                    type=seconds, default=10.0, metavar="SECONDS"),
-             option("--window", help="jobs under way on a connection; 64, unless this says otherwise", type=int, default=64,
+                    type=lease, default=10.0, metavar="SECONDS"),
+             option("--window", help="jobs under way on a connection; 64, unless this says otherwise", type=from_to(1), default=64,
                     metavar="N"),
-             option("--lanes", help="connections for each tenant at a host; 1, unless this says otherwise", type=int, default=1,
+             option("--lanes", help="connections for each tenant at a host; 1, unless this says otherwise", type=from_to(1), default=1,
                     metavar="N"),
-             option("--connections", help="connections to each host; 32, unless this says otherwise", type=int, default=32,
+             option("--connections", help="connections to each host; 32, unless this says otherwise", type=from_to(1), default=32,
                     metavar="N"), SYNCHRONOUS)),
     Command("wait", "wait until jobs have ended, and print their values",
             "Waits until all of these jobs have ended, and prints what came of each as `run` does. The status is that of the worst "
@@ -58,7 +70,7 @@ INNER = (
     Command("list", "print jobs, the newest first", "Prints jobs, the newest first, a line each.",
             "arena queue list --state dead", queue_looks.listing,
             (QUEUE, option("--state", help="only those in this state", choices=STATES),
-             option("--limit", help="how many; 50, unless this says otherwise", type=int, default=50, metavar="N"),
+             option("--limit", help="how many; 50, unless this says otherwise", type=from_to(1), default=50, metavar="N"),
              option("--before", help="only those whose number is lower", type=int, metavar="JOB"))),
     Command("show", "print a job, and what happened to it", "Prints all that is known of a job, and what happened to it out of the "
             "ordinary: each time that it was lost, and why.", "arena queue show 17", queue_looks.show, (NUMBER, QUEUE)),

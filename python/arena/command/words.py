@@ -139,6 +139,17 @@ def integer(text: str) -> int:
     return number - 2**64 if 2**63 <= number < 2**64 else number
 
 
+def from_to(least: int, most: int | None = None) -> Callable[[str], int]:
+    """The type of a word that is a number in a range, or from a least one on."""
+    def number(text: str) -> int:
+        """The number."""
+        found = int(text)
+        if found < least or most is not None and found > most:
+            raise argparse.ArgumentTypeError(f"{text}: a number from {least} {'on' if most is None else f'to {most}'}")
+        return found
+    return number
+
+
 COMMON = (
     option("-s", "--socket", help="the server's socket; else ARENA_SOCKET, else /tmp/arena.sock", metavar="PATH",
            completes=Completes.FILE),
