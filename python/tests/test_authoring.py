@@ -166,6 +166,14 @@ class Form(unittest.TestCase):
                 self.assertEqual(it.read(), USUAL)
             self.assertEqual(command("fmt", "--check", path), (0, "", ""))
             self.assertEqual(os.listdir(folder), ["a.job"])
+            link = os.path.join(folder, "link.job")
+            os.symlink("a.job", link)
+            with open(path, "w", encoding="utf-8") as it:
+                it.write(UGLY)
+            self.assertEqual(command("fmt", link), (0, "", ""))
+            self.assertEqual(os.readlink(link), "a.job")
+            with open(path, encoding="utf-8") as it:
+                self.assertEqual(it.read(), USUAL)
 
 
 class Ends(unittest.TestCase):

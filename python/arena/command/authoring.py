@@ -69,7 +69,8 @@ def fmt(call: Call) -> int:
 
 
 def _replace(path: str, text: str) -> None:
-    """Writes a file anew, whole or not at all."""
+    """Writes a file anew, whole or not at all. A link stays, and the file that it leads to is written."""
+    path = os.path.realpath(path)
     part = f"{path}.part"
     with open(part, "w", encoding="utf-8") as it:
         it.write(text)
