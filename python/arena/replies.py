@@ -225,8 +225,8 @@ class HistoryFull(Refused):
     """Error 8."""
 
     code, name, passes = 8, "history_full", True
-    advice = ("the tenant's history has all its `steps` entries; arena-host could open no new one, so ask again later; "
-              "start arena-server anew, with more `steps` if there are fewer than 1,048,576")
+    advice = ("the tenant's history has all its `steps` entries; arena-host could open no new one, so ask again later, or the tenant "
+              "is gone from its configuration; start arena-server anew, with more `steps` if there are fewer than 1,048,576")
     advice_of_job = ("the history that the job is in has all its `steps` entries, or ended before the job did; if arena-host answers "
                      "this again, the job is lost, so run it again; start arena-server anew, with more `steps` if there are fewer "
                      "than 1,048,576")

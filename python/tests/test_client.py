@@ -57,6 +57,7 @@ class Errors(unittest.TestCase):
             with self.assertRaises(arena.HistoryFull) as caught:
                 request.value(line)
             self.assertEqual("so run it again" in str(caught.exception), is_of_job, request)
+            self.assertEqual("gone from its configuration" in str(caught.exception), not is_of_job, request)
             self.assertIn(caught.exception.advice, str(caught.exception))
 
     def test_lost_connections_are_not_known(self) -> None:
