@@ -205,6 +205,7 @@ def dumps_are_read(it, dump):
             out=re.compile("".join(f"{re.escape(name)}: [\\d,]+ characters\n" for name in files)))
     it.call("timeline", dump, "--from", "1000000", status=9, err="fewer entries than --from 1000000")
     it.call("timeline", dump, "--from", "7", "--to", "3", status=2, err="--to is not before --from")
+    it.call("timeline", dump, "--from", "0", status=2, err="--from 0: entries are counted from 1")
     it.call("timeline", dump, "--job", "99999", status=9, err="no row of job 99999")
 
 

@@ -92,8 +92,8 @@ def timeline(call: Call) -> int:
     words, dump, source = call.words, opened(call.words.DUMP), maps(call)
     first = 1 if words.first is None else words.first
     if first < 1 or words.last is not None and words.last < first:
-        raise WordsFault(f"--from {first} --to {words.last}: entries are counted from 1, and --to is not before "
-                         "--from")
+        last = "" if words.last is None else f" --to {words.last}"
+        raise WordsFault(f"--from {first}{last}: entries are counted from 1, and --to is not before --from")
     choice = Choice(Axis(words.axis), words.first, words.last, words.job)
     with without_collector():
         shown = timeline_of(replayed(dump), dump.tenant, choice, source)
