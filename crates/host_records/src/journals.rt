@@ -4,6 +4,7 @@ ghost use Rattle.std.specs.Io.KnownBytes.{Appends};
 ghost use Rattle.dump_lines.specs.Dumps.{entries_text};
 ghost use Rattle.host_records.specs.Journals.{AreNext, AreWritten};
 
+use crate::syncs::Synced;
 use job_language::{Entry, TenantConfig};
 use part_writer::{LivePart, PartFault};
 use std::alloc::{AllocError, Global};
@@ -37,15 +38,6 @@ struct Written<F: Write + Drop> {
     count: usize,
     /// Room for the next ones.
     next: Vec<Entry>,
-}
-
-/// How far the file is on the disk.
-#[derive(Clone, Copy)]
-struct Synced {
-    /// How many entries are there.
-    count: usize,
-    /// Whether a session brings more there.
-    is_syncing: bool,
 }
 
 /// A term's journal.
@@ -122,10 +114,7 @@ impl Journal {
             }),
             count: AtomicUsize::new(0),
             file: handle,
-            synced: Mutex::new(Synced {
-                count: 0,
-                is_syncing: false,
-            }),
+            synced: Mutex::new(Synced::new()),
             changed: Condvar::new(),
             is_synced,
             is_broken: AtomicBool::new(false),
@@ -196,31 +185,31 @@ impl Journal {
         for _grace in 0..GRACES {
             thread::yield_now();
         }
-        let there = self.count.load(Ordering::SeqCst);
-        let is_there = !self.is_broken() && self.file.sync_data().is_ok();
-        if !is_there {
+        let there = self.brought_there();
+        if there.is_none() {
             self.note(PartFault::Failed);
         }
-        let mut synced = self.synced.lock(rt);
-        synced.is_syncing = false;
-        if is_there {
-            synced.count = there;
-        }
+        self.synced.lock(rt).end_turn(there);
         self.changed.notify_all();
-        if is_there { Some(()) } else { None }
+        there.map(|_count| ())
+    }
+
+    /// Brings the file to the disk, and says how many entries are there then. None if that fails.
+    fn brought_there(&self) -> Option<usize> {
+        let count = self.count.load(Ordering::SeqCst);
+        if self.is_broken() || self.file.sync_data().is_err() {
+            return None;
+        }
+        Some(count)
     }
 
     /// Waits until so many entries are on the disk, or it is the caller's turn to bring them there, and says whether it
     /// is.
     fn has_turn_to_sync<R: Wait>(&self, rt: &R, wanted: usize) -> bool {
-        let mut synced = self.changed.wait_while(rt, self.synced.lock(rt), |synced| {
-            synced.is_syncing && synced.count < wanted
-        });
-        let has_turn = synced.count < wanted;
-        if has_turn {
-            synced.is_syncing = true;
-        }
-        has_turn
+        let mut synced = self
+            .changed
+            .wait_while(rt, self.synced.lock(rt), |synced| synced.holds_up(wanted));
+        synced.take_turn(wanted)
     }
 
     /// Writes what the history has and the file has not, and brings the file to the disk if that is wanted or replies

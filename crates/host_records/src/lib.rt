@@ -5,6 +5,7 @@
 mod journals;
 mod notes;
 mod outlet;
+mod syncs;
 mod term_ends;
 
 pub use journals::{Journal, Kept, bring_to_journal};

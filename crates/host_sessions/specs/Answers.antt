@@ -84,7 +84,7 @@ pub record IsFromClosed (request : Request) (reply : Reply) : Type 0 where
 abbrev pub IsUnnoted : Reply → Type 0
 IsUnnoted reply = (reply ≡ Refused NoMemory) ⊎ (reply ≡ Refused HistoryFull)
 
--- No term serves, or what is forgotten can't be noted: neither is asked of a request that only looks for a job, or cancels it.
+-- A request for which no term may serve, or whose effect is to be noted: each but those that look for a job, or cancel it.
 abbrev pub MayLackTerm : Request → Type 0
 MayLackTerm request = (job_named request ≡ None) ⊎ (is_release request ≡ true)
 

@@ -1,4 +1,5 @@
 pub mod Bookings
+pub mod Endings
 pub mod Found
 pub mod Looks
 pub mod Names

@@ -1,5 +1,5 @@
 -- What is told of a job without asking its term's tenant: by a look at the tenant, or of a term that is closed.
-use Rattle.std.specs.Prelude.{ℕ, ◌≡◌, ◌≢◌, ◌≤◌, ◌⊎◌, All, List, Option, Some, None}
+use Rattle.std.specs.Prelude.{ℕ, ◌≡◌, ◌≢◌, ◌≤◌, ◌⊎◌, Option, Some, None}
 use Rattle.job_language.specs.declared.answers.Reply.{Reply}
 use Rattle.job_language.specs.declared.answers.Reply.TheVariants.{Refused, Job}
 use Rattle.job_language.specs.declared.answers.Status.{Status}
@@ -16,8 +16,6 @@ use Rattle.tenant_lock.specs.Under.{AreCounts, IsStatus, IsTally, WasThere}
 use Rattle.tenant_lock.specs.declared.counts.Counts.{Counts}
 use Rattle.tenant_lock.specs.declared.counts.Tally.{Tally}
 use Rattle.term_life.specs.Outcomes.{Kept, answered, status_of}
-use Rattle.term_life.specs.Spans.{outside}
-use Rattle.term_life.specs.declared.outcomes.Outcome.{Outcome}
 
 abbrev pub looked : (job : ℕ) → Option Status → Reply
 looked job None = Refused UnknownJob
@@ -72,23 +70,3 @@ IsDone term config = (term.life ≡ None) ⊎ (HadNothingToDo term config ⊎ Wa
 
 abbrev pub IsDoneTerm : {J : Type 0} → HostTerm J → Type 0
 IsDoneTerm t = IsDone (seen_of t) t.tenant
-
--- One of the term's jobs, whose number outside the outcome has, had come so far at some moment.
-pub record WasOutcome (term : TermSeen) (outcome : Outcome) : Type 0 where
-  pub job : ℕ
-  pub number : outcome.job ≡ outside term.span job
-  pub tenant : ℕ
-  pub seen : FrontData
-  pub life : term.life ≡ Some seen.life
-  pub now : FrontData
-  pub was : WasThere tenant seen now (IsStatus job (Some outcome.status))
-
--- a term that ends, with what its tenant was given and what its jobs have come to
-pub record EndingSeen : Type 0 where
-  pub term : TermSeen
-  pub config : Tenant
-  pub outcomes : List Outcome
-
--- Each outcome is of one of the term's jobs.
-abbrev pub IsEnding : EndingSeen → Type 0
-IsEnding e = All (WasOutcome e.term) e.outcomes

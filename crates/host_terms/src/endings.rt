@@ -1,8 +1,8 @@
 // A term that nobody asks any more.
-ghost use Rattle.std.specs.Prelude.{◌≡◌, All, IfOk};
+ghost use Rattle.std.specs.Prelude.{◌≡◌, IfErr, IfOk};
 ghost use Rattle.std.specs.Arc.{arc_value};
 ghost use Rattle.host_terms.specs.Bookings.{seen_of};
-ghost use Rattle.host_terms.specs.Looks.{WasOutcome};
+ghost use Rattle.host_terms.specs.Endings.{AreComplete};
 
 use crate::hosts::Host;
 use crate::terms::HostTerm;
@@ -35,7 +35,7 @@ impl<J: Naming> Drop for Ending<J> {
 impl<J: Naming> Model for Ending<J> {
     ghost use Rattle.std.specs.Arc.{arc_value};
     ghost use Rattle.host_terms.specs.Bookings.{seen_of};
-    ghost use Rattle.host_terms.specs.Looks.{EndingSeen, IsEnding};
+    ghost use Rattle.host_terms.specs.Endings.{EndingSeen, IsEnding};
 
     ghost Value = { EndingSeen };
 
@@ -61,7 +61,7 @@ struct Readied {
 
 impl<J: Naming> Ending<J> {
     pub(crate) fn new(term: Arc<HostTerm<J>>, why: Why, outcomes: Vec<Outcome>) -> Ending<J>
-        requires { All (WasOutcome (seen_of (arc_value term))) outcomes.items }
+        requires { AreComplete (seen_of (arc_value term)) outcomes.items }
         ensures term { result.term ≡ seen_of (arc_value term) }
         ensures config { result.config ≡ (arc_value term).tenant }
         ensures outcomes { result.outcomes ≡ outcomes.items }
@@ -86,6 +86,7 @@ impl<J: Naming> Ending<J> {
         ensures span { IfOk result (λ end. end.span ≡ self.term.span) }
         ensures config { IfOk result (λ end. end.tenant ≡ self.config) }
         ensures outcomes { IfOk result (λ end. end.outcomes.items ≡ self.outcomes) }
+        ensures back { IfErr result (λ ending. ending ≡ self) }
     {
         let Some(Readied { room, is_journaled }) = self.readied(rt, alloc) else {
             return Err(self);

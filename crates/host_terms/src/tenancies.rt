@@ -181,7 +181,9 @@ impl<J: Naming> Tenancy<J> {
     }
 
     /// What is known of the term of that number, if it is not closed.
-    pub fn known<R: Wait>(&self, rt: &R, number: u64) -> Option<Term> {
+    pub fn known<R: Wait>(&self, rt: &R, number: u64) -> Option<Term>
+        ensures { IfSome result (λ term. term.number ≡ number) }
+    {
         let lives = self.lives.lock(rt);
         lives
             .terms

@@ -96,6 +96,7 @@ impl<J: Naming> HostTerm<J> {
         journal: Option<Journal>,
     ) -> Result<HostTerm<J>, ServerFault>
         requires { 1 ≤ sessions }
+        ensures { IfOk result (λ t. (t.span ≡ span) × (t.tenant ≡ tenant) × (t.began ≡ began)) }
     {
         let config = config_of_one(alloc, tenant, workers)?;
         let Some(lodging) = Lodging::open(rt, alloc, registry, &config, sessions)? else {
@@ -156,7 +157,9 @@ impl<J: Naming> HostTerm<J> {
     }
 
     /// When it was opened, in seconds since 1970.
-    pub fn began(&self) -> u64 {
+    pub fn began(&self) -> u64
+        ensures { result ≡ self.now.began }
+    {
         self.began
     }
 

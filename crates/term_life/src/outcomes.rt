@@ -111,13 +111,6 @@ impl Outcomes {
         }
     }
 
-    /// Makes room for the outcomes of one more term.
-    pub fn make_room(&mut self) -> Result<(), AllocError>
-        ensures { self.new ≡ self.old }
-    {
-        self.ended.reserve(1)
-    }
-
     /// Keeps the outcomes of one more term, and forgets those of the oldest one if they are too many. If an allocation
     /// fails, nothing has changed.
     pub fn add(&mut self, span: Span, outcomes: Vec<Outcome>) -> Result<(), AllocError>

@@ -142,7 +142,9 @@ impl Held {
 
 impl Pace {
     /// The pace of a term to which nobody has come.
-    pub fn new() -> Pace {
+    pub fn new() -> Pace
+        ensures { result ≡ record { submitted = 0; held = None; granted = 0 } }
+    {
         Pace {
             submitted: 0,
             held: None,

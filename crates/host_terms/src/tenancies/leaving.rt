@@ -1,8 +1,10 @@
 // A tenant's terms are left, and taken out once their jobs have their outcomes.
-ghost use Rattle.std.specs.Prelude.{◌≡◌, ◌<◌, IfOk, IfSome, false, length, slice_get};
+ghost use Rattle.std.specs.Prelude.{◌≡◌, ◌<◌, IfOk, IfSome, OnErr, false, length, slice_get};
 ghost use Rattle.std.specs.Arc.{arc_value};
 ghost use Rattle.host_terms.specs.Bookings.{seen_of};
+ghost use Rattle.host_terms.specs.Endings.{kept_of};
 ghost use Rattle.host_terms.specs.Looks.{IsDone, IsDoneTerm};
+ghost use Rattle.term_life.specs.Outcomes.{with_ended};
 
 use super::{Lives, Tenancy};
 use crate::desks::Desk;
@@ -46,21 +48,23 @@ impl<J: Naming> Lives<J> {
         place: usize,
     ) -> Result<Ending<J>, AllocError>
         requires { place < length self.old.live.items }
-        ensures { IfOk result (λ ending. IfSome (slice_get self.old.live.items place) (λ term.
+        ensures term { IfOk result (λ ending. IfSome (slice_get self.old.live.items place) (λ term.
             (ending.term ≡ seen_of (arc_value term)) × (ending.config ≡ (arc_value term).tenant))) }
+        ensures kept { IfOk result (λ ending. self.new.outcomes ≡ with_ended ending.term.span
+            (kept_of ending.term.span.number self.old.retired ending.outcomes)
+            self.old.outcomes) }
+        ensures refused { OnErr result (self.new ≡ self.old) }
     {
         let outcomes = self.live[place].outcomes(rt, alloc)?;
         let span = self.live[place].span();
         let kept = self.kept_of(alloc, span.number, outcomes.as_slice())?;
-        self.outcomes.make_room()?;
         // From now on they are told without its journal.
         let _is_there = self.live[place].catch_up(rt, alloc, false)?;
+        self.outcomes.add(span, kept)?;
         // No allocation from here on: else the term would be lost with what was taken out.
         let term = self.live.remove(place);
         self.terms.close(span.number);
         let why = self.why(span.number);
-        // There is room for them.
-        let _kept = self.outcomes.add(span, kept);
         Ok(Ending::new(term, why.unwrap_or(Why::Stop), outcomes))
     }
 
@@ -70,7 +74,10 @@ impl<J: Naming> Lives<J> {
         alloc: Global,
         number: u64,
         outcomes: &[Outcome],
-    ) -> Result<Vec<Outcome>, AllocError> {
+    ) -> Result<Vec<Outcome>, AllocError>
+        ensures { IfOk result (λ kept.
+            kept.items ≡ kept_of number self.now.retired outcomes.now) }
+    {
         let mut kept = Vec::new(alloc);
         if number >= self.retired {
             kept.extend_from_slice(outcomes)?;

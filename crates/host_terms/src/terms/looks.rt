@@ -1,6 +1,7 @@
 // How far a term is, and its jobs are.
-ghost use Rattle.std.specs.Prelude.{◌≡◌, All, IfOk, IfSome, Some, false, true};
-ghost use Rattle.host_terms.specs.Looks.{HadNothingToDo, IsDone, IsDoneTerm, IsLooked, WasFull, WasOutcome};
+ghost use Rattle.std.specs.Prelude.{◌≡◌, IfOk, IfSome, MatchOption, None, Some, false, true};
+ghost use Rattle.host_terms.specs.Endings.{AreComplete, WasNext, WasOutcome, WasSo};
+ghost use Rattle.host_terms.specs.Looks.{HadNothingToDo, IsDone, IsDoneTerm, IsLooked, WasFull};
 ghost use Rattle.host_terms.specs.Bookings.{seen_of};
 
 use super::HostTerm;
@@ -10,7 +11,6 @@ use std::alloc::{AllocError, Global};
 use std::sync::Wait;
 use tenant_book::Naming;
 use tenant_lock::TenantDoor;
-use tenant_model::MAX_JOBS;
 use term_life::{Outcome, is_used};
 
 impl<J: Naming> HostTerm<J> {
@@ -90,15 +90,15 @@ impl<J: Naming> HostTerm<J> {
         rt: &R,
         alloc: Global,
     ) -> Result<Vec<Outcome>, AllocError>
-        ensures { IfOk result (λ outcomes. All (WasOutcome (seen_of self.now)) outcomes.items) }
+        ensures { IfOk result (λ outcomes. AreComplete (seen_of self.now) outcomes.items) }
     {
         let mut outcomes = Vec::new(alloc);
         let Some(door) = self.door() else {
             return Ok(outcomes);
         };
         let mut last = 0;
-        for _job in 0..MAX_JOBS {
-            let Some(job) = door.next_job(rt, &mut door.front(), last) else {
+        for _job in rt.forever() {
+            let Some(job) = self.next_job(rt, door, last) else {
                 return Ok(outcomes);
             };
             if let Some(outcome) = self.outcome(rt, door, job) {
@@ -106,13 +106,22 @@ impl<J: Naming> HostTerm<J> {
             }
             last = job;
         }
-        Ok(outcomes)
+        unreachable!()
+    }
+
+    /// The first of its jobs after that one that is neither retired nor released, by their numbers here.
+    fn next_job<R: Wait>(&self, rt: &R, door: &TenantDoor<J>, after: u64) -> Option<u64>
+        requires { (seen_of self.now).life ≡ Some door.now.life }
+        ensures { WasNext (seen_of self.now) after result }
+    {
+        door.next_job(rt, &mut door.front(), after)
     }
 
     /// How far a job is, by its number here. None if it is retired or released, or was not made.
     fn outcome<R: Wait>(&self, rt: &R, door: &TenantDoor<J>, job: u64) -> Option<Outcome>
         requires { (seen_of self.now).life ≡ Some door.now.life }
-        ensures { IfSome result (WasOutcome (seen_of self.now)) }
+        ensures { MatchOption result (WasSo (seen_of self.now) job None)
+            (WasOutcome (seen_of self.now) job) }
     {
         let status = door.status(rt, &mut door.front(), job)?;
         Some(Outcome {
