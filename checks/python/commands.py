@@ -82,6 +82,7 @@ def faults_have_their_status(it):
     seven = it.server.file("seven.json")
     it.call("info", "--tenant", "nobody", status=25, err="error 5, unknown_tenant")
     it.call("info", status=2, err="no tenant is named; give --tenant NAME, or set ARENA_TENANT", ARENA_TENANT="")
+    it.call("info", "--tenant", "No body", status=2, err="No body: a tenant's name has 1 to 32 of the characters")
     it.call("info", "--socket", "/nowhere", status=6, err="^arena: /nowhere: No such file or directory; is "
             "arena-server or arena-host running there\\? arena-server ends by itself after as many connections",
             how=arena_process)

@@ -44,10 +44,13 @@ class Call:
 
     @property
     def tenant(self) -> str:
-        """The tenant's name. Raises WordsFault if none is said."""
+        """The tenant's name. Raises WordsFault if none is said, or what is said can't be one."""
+        from arena.lint import NAME
         tenant = self.words.tenant or os.environ.get("ARENA_TENANT")
         if not tenant:
             raise WordsFault("no tenant is named; give --tenant NAME, or set ARENA_TENANT")
+        if not NAME.fullmatch(tenant):
+            raise WordsFault(f"{tenant}: a tenant's name has 1 to 32 of the characters a to z, 0 to 9 and -")
         return tenant
 
     @property
