@@ -123,6 +123,8 @@ class Commands(unittest.TestCase):
         self.assertEqual(command("queue", "stats", "-q", os.path.join(self.folder, "none"))[0], 12)
         self.assertEqual(command("queue", "stats", "-q", self.folder),
                          (12, "", f"arena: {self.folder}: unable to open database file\n"))
+        self.assertEqual(command("queue", "stats", "-q", self.job)[0], 12, "that is no queue")
+        self.assertFalse(os.path.exists(f"{self.job}-turns"))
         self.assertEqual(command("queue", "submit", self.job, "-q", self.path)[0], 2, "no tenant is named")
         with self.assertRaises(SystemExit):
             command("queue", "nothing")

@@ -53,9 +53,10 @@ class Sqlite(Base):
                 raise sqlite3.OperationalError(f"{path}: {fault}") from None
             opened.callback(self._base.close)
             self._sender = opened.enter_context(contextlib.closing(Sender(f"{path}-wake")))
-            self._turns = os.open(f"{path}-turns", os.O_CREAT | os.O_RDWR | os.O_CLOEXEC, 0o666)
-            opened.callback(os.close, self._turns)
             try:
+                self._base.execute("PRAGMA schema_version")  # of a file that is no queue, before one is made beside it
+                self._turns = os.open(f"{path}-turns", os.O_CREAT | os.O_RDWR | os.O_CLOEXEC, 0o666)
+                opened.callback(os.close, self._turns)
                 self._base.create_function("arena_now", 0, now)
                 for setting in SETTINGS:
                     self._base.execute(f"PRAGMA {setting}")
