@@ -41,6 +41,7 @@ from giving_sources import GIVING, given_in, given_to  # noqa: E402
 from group_sources import GROUPS  # noqa: E402
 from hiding_sources import HIDING  # noqa: E402
 from inline_sources import INLINES  # noqa: E402
+from long_sources import LONG  # noqa: E402
 from nameless_sources import NAMELESS  # noqa: E402
 from parallel_sources import PARALLEL  # noqa: E402
 from reference import TooLong, interpreted  # noqa: E402
@@ -97,6 +98,9 @@ REPLIES = (
 )
 """Sources, the words for arena-compile, its status, its output, and standard error up to a colon and a space."""
 
+STACK = "1024"
+"""How many kilobytes of stack arena-compile has for the longest sources: it must not take some for each byte or line."""
+
 TAKEN = {"divisors.job", "fib.job", "hash.job", "keeper.job", "longest.job", "patient.job", "posted.job", "primes.job", "queens.job", "search.job",
          "serial.job", "sum.job"}
 """The examples that arena-compile takes."""
@@ -129,9 +133,11 @@ MOST_CROWDED = 0.03
 """Which share of the programs may be refused for registers."""
 
 
-def compiled(program: str, source: str, *words: object) -> tuple[int, str, str]:
-    """What arena-compile says of a source, with these words: its status, its output, and standard error."""
-    done = subprocess.run([program, *map(str, words)], input=source, capture_output=True, text=True, timeout=60)
+def compiled(program: str, source: str, *words: object, stack: str = "") -> tuple[int, str, str]:
+    """What arena-compile says of a source, with these words: its status, its output, and standard error. Its stack may be limited
+    to so many kilobytes."""
+    limited = ["sh", "-c", 'ulimit -s "$0" && exec "$@"', stack] if stack else []
+    done = subprocess.run([*limited, program, *map(str, words)], input=source, capture_output=True, text=True, timeout=60)
     return done.returncode, done.stdout, done.stderr
 
 
@@ -285,8 +291,9 @@ def refused_difference(program: str, source: str, place: str) -> str:
 
 def wrong_replies(program: str) -> list[str]:
     """What is wrong with the replies to some sources, with their words."""
-    said = ((source, words, status, output, compiled(program, source, *words)) for source, words, status, output in REPLIES)
-    return [f"{found} for {words}, and not {(status, output)}:\n{source}" for source, words, status, output, found in said
+    said = [(source, words, status, output, compiled(program, source, *words)) for source, words, status, output in REPLIES]
+    said += [(source, words, status, output, compiled(program, source, *words, stack=STACK)) for source, words, status, output in LONG]
+    return [f"{found} for {words}, and not {(status, output)}:\n{source[:2_000]}" for source, words, status, output, found in said
             if (*found[:2], found[2].split(": ")[0]) != (status, *output)]
 
 
@@ -324,7 +331,7 @@ def main(seed: int = 1, programs: int = 400) -> list[str]:
         print(f"too many programs are refused for registers: {seen['registers']}")
     shown = ", ".join(f"{count} {kind}" for kind, count in sorted(seen.items()))
     print(f"{programs} sources by two compilers ({shown}), {len(BITS)} with bits, {len(COUNTING)} that count, {len(CALLING)} that call, "
-          f"{len(WAITING)} that wait, {len(GROUPS)} with groups, {len(INLINES)} with inline functions, {len(PARALLEL)} with parallel loops, {len(ASKING)} with calls and the like inside values, {len(WIDTHS) + len(PACKED) + len(shared)} with widths, {len(BROKEN) + len(FURTHER)} with broken lines, {len(BUILT_IN)} with min, max and abs, {len(STATUSES) + len(CANCELED)} with statuses, {len(HIDING)} that hide names, {len(GIVING)} whose params are given numbers, {len(NAMELESS)} with tasks without a name, {len(SHARING)} that share, {len(FITTING)} that just fit, {len(CROWDED)} that do not, {len(TAKEN)} of the examples, {len(REFUSED)} refused: {len(found)} differences")
+          f"{len(WAITING)} that wait, {len(GROUPS)} with groups, {len(INLINES)} with inline functions, {len(PARALLEL)} with parallel loops, {len(ASKING)} with calls and the like inside values, {len(WIDTHS) + len(PACKED) + len(shared)} with widths, {len(BROKEN) + len(FURTHER)} with broken lines, {len(BUILT_IN)} with min, max and abs, {len(STATUSES) + len(CANCELED)} with statuses, {len(HIDING)} that hide names, {len(GIVING)} whose params are given numbers, {len(NAMELESS)} with tasks without a name, {len(SHARING)} that share, {len(FITTING)} that just fit, {len(CROWDED)} that do not, {len(TAKEN)} of the examples, {len(LONG)} of the greatest length, {len(REFUSED)} refused: {len(found)} differences")
     return found or rare
 
 

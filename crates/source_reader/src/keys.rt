@@ -91,12 +91,12 @@ fn is_this(key: Key, other: Option<Key>) -> bool
 fn chooses(key: Key, tokens: &[Token]) -> bool
     ensures { result ≡ chooses key tokens.now }
 {
-    match tokens.split_first() {
-        Some((first, rest)) => {
-            is_at_of(first.kind) && is_this(key, key_written(rest)) || chooses(key, rest)
+    for (place, token) in tokens.iter().enumerate() {
+        if is_at_of(token.kind) && is_this(key, key_written(tokens.split_at(place + 1).1)) {
+            return true;
         }
-        None => false,
     }
+    false
 }
 
 /// Whether a cell above has the key, or one below chooses it.

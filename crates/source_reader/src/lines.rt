@@ -126,16 +126,12 @@ pub(crate) fn is_end(kind: Kind) -> bool
 pub(crate) fn after_line_ends(tokens: &[Token]) -> &[Token]
     ensures { result.now ≡ after_line_ends tokens.now }
 {
-    match tokens.split_first() {
-        Some((first, rest)) => {
-            if is_line_end(first.kind) {
-                after_line_ends(rest)
-            } else {
-                tokens
-            }
+    for (place, token) in tokens.iter().enumerate() {
+        if !is_line_end(token.kind) {
+            return tokens.split_at(place).1;
         }
-        None => tokens,
     }
+    &[]
 }
 
 /// The same tokens, if a statement may end before them.

@@ -15,16 +15,18 @@ fn place_from(line: usize, column: usize, text: &[u8]) -> Place
     requires room { line + column + length text.now < 2 ^ 64 }
     ensures { result ≡ place_from line column text.now }
 {
-    match text.split_first() {
-        Some((first, rest)) => {
-            if *first == 10 {
-                place_from(line + 1, 1, rest)
-            } else {
-                place_from(line, column + 1, rest)
-            }
+    let mut place = Place { line, column };
+    let mut left = text;
+    while let Some((first, others)) = left.split_first() {
+        if *first == 10 {
+            place.line += 1;
+            place.column = 1;
+        } else {
+            place.column += 1;
         }
-        None => Place { line, column },
+        left = others;
     }
+    place
 }
 
 /// The place behind so many bytes of a text.

@@ -69,37 +69,34 @@ fn place_left(tokens: &[Token], text: &[u8], left: usize) -> Place
 fn nth_gathering(tokens: &[Token], number: usize, end: usize) -> usize
     ensures { result ≡ nth_gathering tokens.now number end }
 {
-    match tokens.split_first() {
-        Some((first, rest)) => {
-            if gathers_of(first.kind).is_none() {
-                nth_gathering(rest, number, end)
-            } else if number == 0 {
-                first.at
-            } else {
-                nth_gathering(rest, number - 1, end)
+    let mut number = number;
+    for token in tokens {
+        if gathers_of(token.kind).is_some() {
+            if number == 0 {
+                return token.at;
             }
+            number -= 1;
         }
-        None => end,
     }
+    end
 }
 
 /// Where the function of that number begins. Those of parallel loops come behind those of the source.
 fn nth_fn(behind_inline: bool, tokens: &[Token], all: &[Token], number: usize, end: usize) -> usize
     ensures { result ≡ nth_fn behind_inline tokens.now all.now number end }
 {
-    match tokens.split_first() {
-        Some((first, rest)) => {
-            let inline = is_inline(first.kind);
-            if !begins(behind_inline, first.kind) {
-                nth_fn(inline, rest, all, number, end)
-            } else if number == 0 {
-                first.at
-            } else {
-                nth_fn(inline, rest, all, number - 1, end)
+    let mut behind_inline = behind_inline;
+    let mut number = number;
+    for token in tokens {
+        if begins(behind_inline, token.kind) {
+            if number == 0 {
+                return token.at;
             }
+            number -= 1;
         }
-        None => nth_gathering(all, number, end),
+        behind_inline = is_inline(token.kind);
     }
+    nth_gathering(all, number, end)
 }
 
 /// The place where the function of that number begins, from 0.

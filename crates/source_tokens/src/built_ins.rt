@@ -71,10 +71,12 @@ fn has_name(name: usize, tokens: &[Token]) -> bool
 fn is_own(name: usize, tokens: &[Token]) -> bool
     ensures { result ≡ is_own name tokens.now }
 {
-    match tokens.split_first() {
-        Some((first, rest)) => is_fn(first.kind) && has_name(name, rest) || is_own(name, rest),
-        None => false,
+    for (place, token) in tokens.iter().enumerate() {
+        if is_fn(token.kind) && has_name(name, tokens.split_at(place + 1).1) {
+            return true;
+        }
     }
+    false
 }
 
 /// The kind of a token, behind which are the others. All tokens of the source are given, too.

@@ -98,12 +98,12 @@ fn is_param(kind: Kind) -> bool
 fn has_param(text: &[u8], name: &[u8], tokens: &[Token]) -> bool
     ensures { result ≡ has_param text.now name.now tokens.now }
 {
-    match tokens.split_first() {
-        Some((first, rest)) => {
-            is_param(first.kind) && is(first_word(text, rest), name) || has_param(text, name, rest)
+    for (place, token) in tokens.iter().enumerate() {
+        if is_param(token.kind) && is(first_word(text, tokens.split_at(place + 1).1), name) {
+            return true;
         }
-        None => false,
     }
+    false
 }
 
 /// Whether each of these names is that of a `param`.

@@ -44,10 +44,13 @@ fn digit_added(base: u64, number: u64, byte: u8) -> Option<u64>
 fn with_digits(base: u64, number: u64, text: &[u8]) -> Option<u64>
     ensures { result ≡ with_digits base number text.now }
 {
-    match text.split_first() {
-        Some((first, rest)) => with_digits(base, digit_added(base, number, *first)?, rest),
-        None => Some(number),
+    let mut number = number;
+    let mut left = text;
+    while let Some((first, others)) = left.split_first() {
+        number = digit_added(base, number, *first)?;
+        left = others;
     }
+    Some(number)
 }
 
 /// Whether a number begins with `0x` and a digit.

@@ -30,16 +30,14 @@ fn first_with(text: &[u8], all: &[Lexeme], place: usize) -> Option<usize>
     requires { place + length all.now < 2 ^ 64 }
     ensures { result ≡ first_with text.now place (map view_lexeme all.now) }
 {
-    match all.split_first() {
-        Some((first, others)) => {
-            if first.text == text {
-                Some(place)
-            } else {
-                first_with(text, others, place + 1)
-            }
+    let mut place = place;
+    for lexeme in all {
+        if lexeme.text == text {
+            return Some(place);
         }
-        None => None,
+        place += 1;
     }
+    None
 }
 
 fn number_kind(text: &[u8]) -> Kind

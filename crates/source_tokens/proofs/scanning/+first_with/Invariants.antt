@@ -1,5 +1,0 @@
-use Rattle.std.proofs.Common.{length}
-use Rattle.source_tokens.proofs.scanning.+first_with.Given as goal
-
-abbrev pub decreases-first_with : goal.decreases-first_with
-decreases-first_with l = length l.all.now
