@@ -4,29 +4,37 @@ functions that they are in: it must refuse each of them, for a goal of its own. 
 loses its body, and is taken by its contract. One that calls another of them, and of which only that is said, is tried again
 without the other.
 
-`rt ci` tries the edits beside such a page one by one, for half a minute each; here one more costs a second or two.
+`rt ci` tries the edits beside such a page one by one, for half a minute each; here one more costs a second or two. Of a page that
+takes several checks the first one goes ahead, and the others run side by side, with what that has kept.
 
 usage: checks/edits/run.py [--read | --right] [CRATE..], at the top of the repository, after `rt ci`. It exits with a status
 other than 0 if a wrong body is not refused. With --read it only looks whether each stands where its page says, in a second.
 With --right it plants none, and no function may be refused: so none of them is refused for what was taken from it.
 """
 import argparse
+import collections
 import concurrent.futures
 import os
 import pathlib
+import shutil
 import subprocess
 import sys
 import tempfile
+import threading
 import time
 from collections.abc import Callable
 
 from bodies import PageError, WrongBody, read_bodies
-from prover import ask, build_libraries, read_crates
+from prover import Said, ask, build_libraries, read_crates
 from recorded import wrong_readings
 
 PAGE = "must-fail/calls.md"
 AT_ONCE = 24
 """How many wrong bodies one check tries at most: with more of them the dearest page takes as long as a check may."""
+SLOTS = threading.BoundedSemaphore(len(os.sched_getaffinity(0)))
+"""One for each processor: each check takes one."""
+TOOK: dict[str, list[float]] = collections.defaultdict(list)
+"""How many seconds each check of a crate took."""
 # what is wrong with a crate's wrong bodies, by what the prover says of them
 Judge = Callable[[dict[str, list[str]], str, list[WrongBody], str], list[str]]
 
@@ -42,23 +50,58 @@ def planted(bodies: list[WrongBody], crate: pathlib.Path) -> tuple[dict[str, str
     return texts, [*inside.values()]
 
 
+def asked(crates: dict[str, list[str]], name: str, texts: dict[str, str], functions: list[str], kept: str) -> Said:
+    """What the prover says of these functions, once a processor is there for the check."""
+    with SLOTS:
+        start = time.monotonic()
+        said = ask(crates, name, texts, functions, kept)
+        TOOK[name].append(time.monotonic() - start)
+    return said
+
+
+def batches_of(name: str, bodies: list[WrongBody]) -> list[list[WrongBody]]:
+    """Returns these bodies by the checks that try them."""
+    batches, left = [], bodies
+    while left:
+        _, inside = planted(left, pathlib.Path("crates", name))
+        batches.append(inside)
+        left = [body for body in left if body not in inside]
+    return batches
+
+
+def tried(crates: dict[str, list[str]], name: str, batch: list[WrongBody], kept: str) -> tuple[list[str], list[WrongBody]]:
+    """Tries the wrong bodies of one check. Returns what is wrong with them, and which are to be tried again without the others."""
+    texts, _ = planted(batch, pathlib.Path("crates", name))
+    functions = [body.function for body in batch]
+    said = asked(crates, name, texts, functions, kept)
+    if not said.has_judged:
+        return [f"{name}: BAD EDIT: the prover can't read the texts:\n{said.first_lines()}"], []
+    accepted = [body for body in batch if not said.is_refused(body.file, body.function)]
+    hidden = [body for body in accepted if said.is_hidden(body.function, functions)]
+    return [f"{name}/{body.name}: NOT REFUSED: {body.function}: {said.verdict(body.function)}"
+            for body in accepted if body not in hidden], hidden
+
+
+def tried_beside(crates: dict[str, list[str]], name: str, batch: list[WrongBody], kept: str) -> tuple[list[str], list[WrongBody]]:
+    """The same beside other checks of the crate: it begins with what the first of them kept."""
+    with tempfile.TemporaryDirectory(prefix=f"kept-{name}-") as own:
+        with SLOTS:
+            shutil.copytree(kept, own, dirs_exist_ok=True)
+        return tried(crates, name, batch, own)
+
+
 def faults_of(crates: dict[str, list[str]], name: str, bodies: list[WrongBody], kept: str) -> list[str]:
     """Returns what is wrong with a crate's wrong bodies; of those that are refused nothing is said."""
-    left, faults = bodies, []
-    while left:
-        texts, inside = planted(left, pathlib.Path("crates", name))
-        functions = [body.function for body in inside]
-        said = ask(crates, name, texts, functions, kept)
-        if not said.has_judged:
-            return [*faults, f"{name}: BAD EDIT: the prover can't read the texts:\n{said.first_lines()}"]
-        accepted = [body for body in inside if not said.is_refused(body.file, body.function)]
-        hidden = [body for body in accepted if said.is_hidden(body.function, functions)]
-        faults += [f"{name}/{body.name}: NOT REFUSED: {body.function}: {said.verdict(body.function)}"
-                   for body in accepted if body not in hidden]
-        after = [body for body in left if body in hidden or body not in inside]
-        if len(after) == len(left):
-            return [*faults, *(f"{name}/{body.name}: NOT REFUSED: only what it calls is" for body in after)]
-        left = after
+    first, *others = batches_of(name, bodies)
+    done = [tried(crates, name, first, kept)]
+    with concurrent.futures.ThreadPoolExecutor(len(others) + 1) as pool:
+        done += pool.map(lambda batch: tried_beside(crates, name, batch, kept), others)
+    faults = [fault for found, _ in done for fault in found]
+    while left := [body for _, hidden in done for body in hidden]:
+        done = [tried(crates, name, batch, kept) for batch in batches_of(name, left)]
+        faults += [fault for found, _ in done for fault in found]
+        if sum(len(hidden) for _, hidden in done) == len(left):
+            return [*faults, *(f"{name}/{body.name}: NOT REFUSED: only what it calls is" for body in left)]
     return faults
 
 
@@ -66,7 +109,7 @@ def refused_as_they_are(crates: dict[str, list[str]], name: str, bodies: list[Wr
     """Returns which of the functions that a crate's wrong bodies are in are refused with their own bodies."""
     own = {body.function: body.file for body in bodies}
     texts = {file: pathlib.Path("crates", name, file).read_text() for file in own.values()}
-    said = ask(crates, name, texts, [*own], kept)
+    said = asked(crates, name, texts, [*own], kept)
     wrong = [function for function in own if not said.verdict(function).startswith(("no holes", "depends on a hole"))]
     return [f"{name}: REFUSED AS IT IS: {function}: {said.verdict(function) or said.first_lines()}" for function in wrong]
 
@@ -82,7 +125,6 @@ def judged(judge: Judge, crates: dict[str, list[str]], name: str, bodies: list[W
 
 def try_crate(judge: Judge, crates: dict[str, list[str]], name: str, bodies: list[WrongBody]) -> list[str]:
     """Tries a crate's wrong bodies, once more if other work held that up, says how it went, and returns what is wrong."""
-    start = time.monotonic()
     try:
         faults = judged(judge, crates, name, bodies)
         if faults is None:
@@ -91,7 +133,7 @@ def try_crate(judge: Judge, crates: dict[str, list[str]], name: str, bodies: lis
             faults = [f"{name}: NOT TRIED: held up twice"]
     except PageError as error:
         faults = [f"{name}: BAD EDIT: {error}"]
-    print(f"{name}: {len(bodies)} planted, {time.monotonic() - start:.0f} s", *faults, sep="\n", flush=True)
+    print(f"{name}: {len(bodies)} planted, {sum(TOOK[name]):.0f} s", *faults, sep="\n", flush=True)
     return faults
 
 
@@ -101,9 +143,9 @@ def lines_of(name: str) -> int:
 
 
 def try_all(judge: Judge, crates: dict[str, list[str]], bodies: dict[str, list[WrongBody]]) -> list[str]:
-    """Tries the wrong bodies of some crates, one crate a processor, and returns what is wrong."""
+    """Tries the wrong bodies of some crates, one check a processor, and returns what is wrong."""
     build_libraries(crates, list(bodies))
-    with concurrent.futures.ThreadPoolExecutor(len(os.sched_getaffinity(0))) as pool:
+    with concurrent.futures.ThreadPoolExecutor(max(1, len(bodies))) as pool:
         order = sorted(bodies, key=lines_of, reverse=True)
         return sum(pool.map(lambda name: try_crate(judge, crates, name, bodies[name]), order), [])
 
