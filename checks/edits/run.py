@@ -39,15 +39,25 @@ TOOK: dict[str, list[float]] = collections.defaultdict(list)
 Judge = Callable[[dict[str, list[str]], str, list[WrongBody], str], list[str]]
 
 
-def planted(bodies: list[WrongBody], crate: pathlib.Path) -> tuple[dict[str, str], list[WrongBody]]:
-    """Returns the texts with as many of these bodies as can stand side by side, at most one in each function, and these; no more
-    than one check tries."""
-    texts, inside = {}, {}
-    for body in bodies:
-        if body.function not in inside and len(inside) < AT_ONCE:
-            body.plant(texts, crate)
-            inside[body.function] = body
-    return texts, [*inside.values()]
+def batches_of(bodies: list[WrongBody]) -> list[list[WrongBody]]:
+    """Returns these bodies by the checks that try them: as many as one check tries, and at most one in each function."""
+    batches, left = [], bodies
+    while left:
+        inside: dict[str, WrongBody] = {}
+        for body in left:
+            if len(inside) < AT_ONCE:
+                inside.setdefault(body.function, body)
+        batches.append([*inside.values()])
+        left = [body for body in left if inside.get(body.function) is not body]
+    return batches
+
+
+def planted(batch: list[WrongBody], crate: pathlib.Path) -> dict[str, str]:
+    """Returns the texts of a crate's files with these bodies, which stand side by side."""
+    texts: dict[str, str] = {}
+    for body in batch:
+        body.plant(texts, crate)
+    return texts
 
 
 def asked(crates: dict[str, list[str]], name: str, texts: dict[str, str], functions: list[str], kept: str) -> Said:
@@ -59,19 +69,9 @@ def asked(crates: dict[str, list[str]], name: str, texts: dict[str, str], functi
     return said
 
 
-def batches_of(name: str, bodies: list[WrongBody]) -> list[list[WrongBody]]:
-    """Returns these bodies by the checks that try them."""
-    batches, left = [], bodies
-    while left:
-        _, inside = planted(left, pathlib.Path("crates", name))
-        batches.append(inside)
-        left = [body for body in left if body not in inside]
-    return batches
-
-
 def tried(crates: dict[str, list[str]], name: str, batch: list[WrongBody], kept: str) -> tuple[list[str], list[WrongBody]]:
     """Tries the wrong bodies of one check. Returns what is wrong with them, and which are to be tried again without the others."""
-    texts, _ = planted(batch, pathlib.Path("crates", name))
+    texts = planted(batch, pathlib.Path("crates", name))
     functions = [body.function for body in batch]
     said = asked(crates, name, texts, functions, kept)
     if not said.has_judged:
@@ -92,13 +92,13 @@ def tried_beside(crates: dict[str, list[str]], name: str, batch: list[WrongBody]
 
 def faults_of(crates: dict[str, list[str]], name: str, bodies: list[WrongBody], kept: str) -> list[str]:
     """Returns what is wrong with a crate's wrong bodies; of those that are refused nothing is said."""
-    first, *others = batches_of(name, bodies)
+    first, *others = batches_of(bodies)
     done = [tried(crates, name, first, kept)]
     with concurrent.futures.ThreadPoolExecutor(len(others) + 1) as pool:
         done += pool.map(lambda batch: tried_beside(crates, name, batch, kept), others)
     faults = [fault for found, _ in done for fault in found]
     while left := [body for _, hidden in done for body in hidden]:
-        done = [tried(crates, name, batch, kept) for batch in batches_of(name, left)]
+        done = [tried(crates, name, batch, kept) for batch in batches_of(left)]
         faults += [fault for found, _ in done for fault in found]
         if sum(len(hidden) for _, hidden in done) == len(left):
             return [*faults, *(f"{name}/{body.name}: NOT REFUSED: only what it calls is" for body in left)]
@@ -164,7 +164,8 @@ def main() -> int:
         for name, own in bodies.items():
             for body in own:
                 body.plant({}, pathlib.Path("crates", name))
-            planted(own, pathlib.Path("crates", name))
+            for batch in batches_of(own):
+                planted(batch, pathlib.Path("crates", name))
     except (PageError, OSError) as error:
         sys.exit(f"BAD EDIT: {error}")
     count = sum(map(len, bodies.values()))
